@@ -1,9 +1,11 @@
 -- The answer to bytes, to a task and to arguments, one inside the other, and its output.
-use Rattle.nmgc_cli.proofs.Vocabulary.{◌≡◌, ◌≢◌, ◌≤◌, ℕ, ◌+◌, List, ◌++◌, length, refl, sym, ◌∙◌, ap, subst, arith, Option, Some, None, Ok, Err, inl, inr, ◌⊎◌, append-nil, IfSome, Appends, Report, End, bench_script, upgraded, Spells, plain, Script, Name, MAX_IMAGE_BYTES, Retained, IsCertified, retained_text, report_text, summary_text, Answer, refusal_status, answer_status, answer_report, answer_text, text_bytes, IsOutputOf, IsRan, status_of, AnswersBench, IsRead, IsReadWithin, SpellsOnly, IsUpgraded, Answers, AnswersScript, AnswersRetain, IsOutputOfReport, AnswersWithReport, IsText, IsSummary, IsImageText, IsAnswer, IsWritten, Ends, IsReport, IsRunThrough, IsComplete, IsBenchComplete, IsUpgrade, IsUpgradeComplete, IsPath, IsRetainComplete, IsMarksText, IsRunOf, IsHeapFull, Asks, CanBeDone, IsRunning, Refusal, Output, Status, Done, WriteFault, HeapFull, NoMemory, Task, Run, Bench, Upgrade, Image, Retain, Marks, most_script_bytes, taken_within}
+use Rattle.nmgc_cli.proofs.Vocabulary.{◌≡◌, ◌≢◌, ◌≤◌, ◌<◌, ℕ, ◌+◌, List, ◌++◌, length, refl, sym, ◌∙◌, ap, subst, arith, Option, Some, None, Ok, Err, inl, inr, ◌⊎◌, append-nil, IfSome, Appends, Report, End, bench_script, upgraded, Spells, plain, Script, Name, MAX_IMAGE_BYTES, Retained, IsCertified, retained_text, report_text, summary_text, Answer, refusal_status, answer_status, answer_report, answer_text, text_bytes, IsOutputOf, IsRan, status_of, AnswersBench, IsRead, IsReadWithin, SpellsOnly, IsUpgraded, Answers, AnswersScript, AnswersRetain, IsOutputOfReport, AnswersWithReport, IsText, IsSummary, IsImageText, IsAnswer, IsWritten, Ends, IsReport, IsRunThrough, IsComplete, IsBenchComplete, IsUpgrade, IsUpgradeComplete, IsPath, IsRetainComplete, IsMarksText, IsRunOf, IsHeapFull, Asks, CanBeDone, IsRunning, Refusal, Output, Status, Done, WriteFault, HeapFull, NoMemory, Task, Run, Bench, Upgrade, Image, Retain, Marks, most_script_bytes, taken_within, Result, ReadEnd, ScriptFault, IsFaultOf, Takes, TakesUpTo, AnswersBytes, read_refusal, script_refusal, most_bytes, lines_few, kept_lines}
 use Rattle.nmgc_journal.specs.declared.report.End.TheVariants as end
 use Rattle.nmgc_image.specs.declared.image.Image as shown
 use Rattle.nmgc_image.specs.Spelling as spelling
 use Rattle.nmgc_cli.specs.declared.answer.Refusal.TheVariants as no
+use Rattle.nmgc_io.specs.declared.ends.ReadEnd.TheVariants as read_end
+use Rattle.nmgc_script.specs.declared.fault.ScriptFault.TheVariants as fault_of
 use Rattle.nmgc_cli.proofs.Asking.{one_task}
 
 -- the output was written
@@ -135,6 +137,36 @@ reports arguments left left' taken taken' read_fault write_fault answer status f
     IfSome f (λ report. IsReport arguments left left' taken taken' write_fault status report)) (sym ended.report_of)
     (of_answer arguments left left' taken taken' read_fault write_fault answer status reported ended.written)
 
+-- the answer to bytes that were read to their end is the answer to a script that is read
+pub read_answers : {X : Type 0} (Gives : Script → X → Type 0) (old new : Option (List ℕ)) (rose : Type 0) (bytes : List ℕ) (answer : Result X Refusal) →
+    IsRead old new bytes → AnswersBytes Gives bytes answer → AnswersScript Gives old new rose answer
+read_answers Gives old new rose bytes (Ok given) read h = (bytes, read, h)
+read_answers Gives old new rose bytes (Err no.Usage) read h = absurd h
+read_answers Gives old new rose bytes (Err no.ReadFault) read h = absurd h
+read_answers Gives old new rose bytes (Err no.TooLong) read h = inr (bytes, read, h)
+read_answers Gives old new rose bytes (Err (no.Bad line c)) read h = (bytes, read, h)
+read_answers Gives old new rose bytes (Err (no.BadImage line)) read h = absurd h
+read_answers Gives old new rose bytes (Err no.NoMemory) read h = (bytes, read.taken, read.within)
+
+-- and so is the refusal if they couldn't be read to their end
+pub unread_answers : {X T : Type 0} (Gives : Script → X → Type 0) (old new : Option (List ℕ)) (rose : Type 0) (why : ReadEnd) →
+    (◌≡◌ {A = Result T ReadEnd} (Err why) (Err read_end.TooLong) → Takes old new (most_script_bytes + 1)) →
+    ((◌≡◌ {A = Result T ReadEnd} (Err why) (Err read_end.TooLong) → ⊥) → TakesUpTo old new most_script_bytes) →
+    (◌≡◌ {A = Result T ReadEnd} (Err why) (Err read_end.ReadFault) → rose) → AnswersScript Gives old new rose (Err (read_refusal why))
+unread_answers Gives old new rose read_end.TooLong long few failed = inl (long refl)
+unread_answers Gives old new rose read_end.ReadFault long few failed = (few (λ e. cc), failed refl)
+unread_answers Gives old new rose read_end.NoMemory long few failed = few (λ e. cc)
+
+-- the answer to bytes that no script could be read from
+pub fault_answers : {X : Type 0} (Gives : Script → X → Type 0) (bytes : List ℕ) (fault : ScriptFault) → length bytes ≤ most_bytes bytes →
+    ((script : Script) → Spells bytes script → fault ≡ fault_of.NoMemory) → IsFaultOf bytes fault → AnswersBytes Gives bytes (Err (script_refusal fault))
+fault_answers Gives bytes (fault_of.Bad line c) short only is = record {
+  short = short;
+  none = λ script spells. let never : fault_of.Bad line c ≡ fault_of.NoMemory = only script spells in cc;
+  fault = is;
+}
+fault_answers Gives bytes fault_of.NoMemory short only is = tt
+
 -- known bytes that were read to their end were read whole
 whole : (limit : ℕ) (bytes read : List ℕ) (new : Option (List ℕ)) → IsReadWithin limit (Some bytes) new read → bytes ≡ read
 whole limit bytes read None is = absurd is.taken
@@ -156,11 +188,14 @@ of_run bytes script new rose report spells h =
 
 -- the refusal of a script that is read, if the source has such bytes and doesn't fail, is want of memory
 refused : {X : Type 0} (Gives : Script → X →
-    Type 0) (bytes : List ℕ) (script : Script) (new : Option (List ℕ)) (rose : Type 0) (refusal : Refusal) → length bytes ≤ most_script_bytes →
+    Type 0) (bytes : List ℕ) (script : Script) (new : Option (List ℕ)) (rose : Type 0) (refusal : Refusal) → length bytes ≤ most_bytes bytes →
     Spells bytes script → (rose → ⊥) → AnswersScript Gives (Some bytes) new rose (Err refusal) → refusal_status refusal ≡ NoMemory
 refused Gives bytes script new rose no.Usage within spells none h = absurd h
 refused Gives bytes script new rose no.ReadFault within spells none h = absurd (none h.1)
-refused Gives bytes script new rose no.TooLong within spells none h = absurd (omega (arith, taken_within bytes new (most_script_bytes + 1) h, within))
+refused Gives bytes script new rose no.TooLong within spells none (inl h) =
+    absurd (omega (arith, taken_within bytes new (most_script_bytes + 1) h, within, lines_few (kept_lines bytes)))
+refused Gives bytes script new rose no.TooLong within spells none (inr h) =
+    let more = subst (λ (b : List ℕ). most_bytes b < length b) (sym (whole most_script_bytes bytes h.0 new h.1)) h.2 in absurd (omega (arith, more, within))
 refused Gives bytes script new rose (no.Bad line c) within spells none h =
     absurd (h.2.none script (subst (λ (b : List ℕ). Spells b script) (whole most_script_bytes bytes h.0 new h.1) spells))
 refused Gives bytes script new rose (no.BadImage line) within spells none h = absurd h.2
@@ -174,14 +209,14 @@ through T script report output t h = subst (λ (s : Status). IsRunThrough script
 
 -- the answer to a task that runs the script it reads, if the source has such bytes and doesn't fail
 script_answer : (T : Report → List ℕ → Type 0) (bytes : List ℕ) (script : Script) (new : Option (List ℕ)) (rose : Type 0) (answer : Answer) →
-    length bytes ≤ most_script_bytes → Spells bytes script → (rose → ⊥) → AnswersWithReport T (AnswersScript IsRan (Some bytes) new rose) answer →
+    length bytes ≤ most_bytes bytes → Spells bytes script → (rose → ⊥) → AnswersWithReport T (AnswersScript IsRan (Some bytes) new rose) answer →
     IsRunThrough script (answer_status answer) (answer_report answer)
 script_answer T bytes script new rose (Ok output) within spells none (report, h, t) =
     through T script report output t (of_run bytes script new rose report spells h)
 script_answer T bytes script new rose (Err refusal) within spells none h = inl (refused IsRan bytes script new rose refusal within spells none h)
 
 of_words : (arguments : List (List ℕ)) (task : Task) (bytes : List ℕ) (script : Script) (new : Option (List ℕ)) (rose : Type 0) (answer : Answer) →
-    Asks arguments task → IsRunning task → length bytes ≤ most_script_bytes → Spells bytes script → (rose → ⊥) →
+    Asks arguments task → IsRunning task → length bytes ≤ most_bytes bytes → Spells bytes script → (rose → ⊥) →
     IsAnswer arguments (Some bytes) new rose answer → IsRunThrough script (answer_status answer) (answer_report answer)
 of_words arguments Run bytes script new rose answer asks runs within spells none h =
     script_answer IsText bytes script new rose answer within spells none (answered_asked arguments Run (Some bytes) new rose answer asks h)
@@ -194,7 +229,7 @@ of_words arguments (Marks markers) bytes script new rose answer asks runs within
     script_answer (IsMarksText markers) bytes script new rose answer within spells none (answered_asked arguments (Marks markers) (Some bytes) new rose answer asks h)
 
 -- the answer to arguments that ask for an upgrade, if the source has such bytes and doesn't fail
-upgraded_through : (bytes : List ℕ) (script : Script) (new : Option (List ℕ)) (rose : Type 0) (answer : Answer) → length bytes ≤ most_script_bytes →
+upgraded_through : (bytes : List ℕ) (script : Script) (new : Option (List ℕ)) (rose : Type 0) (answer : Answer) → length bytes ≤ most_bytes bytes →
     Spells bytes script → (rose → ⊥) → AnswersScript IsUpgraded (Some bytes) new rose answer → (answer_status answer ≡ NoMemory) ⊎ (answer_status answer ≡ Done)
 upgraded_through bytes script new rose (Ok output) within spells none h = inr h.2.2.status
 upgraded_through bytes script new rose (Err refusal) within spells none h = inl (refused IsUpgraded bytes script new rose refusal within spells none h)

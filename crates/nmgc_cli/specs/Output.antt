@@ -1,10 +1,10 @@
 -- The program's answer to its arguments and to the bytes that it reads, and the part of the answer that is written.
-use Rattle.std.specs.Prelude.{◌≡◌, ◌≢◌, ◌⊎◌, ◌≤◌, ◌+◌, ℕ, List, length, Option, Some, None, Result, Ok, Err}
+use Rattle.std.specs.Prelude.{◌≡◌, ◌≢◌, ◌⊎◌, ◌≤◌, ◌<◌, ◌+◌, ℕ, List, length, Option, Some, None, Result, Ok, Err}
 use Rattle.std.specs.Io.KnownBytes.{Consumes, Appends, Keeps, IsAtEnd}
 use Rattle.nmgc_io.specs.Counts.{Takes, TakesUpTo}
 use Rattle.nmgc_arguments.specs.Output.{text_bytes}
 use Rattle.nmgc_arguments.specs.Output as shared
-use Rattle.nmgc_script.specs.{Limits.upgraded, Limits.IsInLimits, Spelling.Spells, Spelling.plain, Faults.IsFaultOfText, Text.kept_lines, Text.end_of, declared.script.Script.Script, declared.fault.Cause.Cause, Bench.bench_script}
+use Rattle.nmgc_script.specs.{Limits.upgraded, Limits.IsInLimits, Limits.most_bytes, Spelling.Spells, Spelling.plain, Faults.IsFaultOfText, Text.kept_lines, Text.end_of, declared.script.Script.Script, declared.fault.Cause.Cause, Bench.bench_script}
 use Rattle.nmgc_journal.specs.{declared.report.Report.Report, Text.report_text, Summary.summary_text}
 use Rattle.nmgc_world_spec.specs.{declared.value.Name.Name, World.World}
 use Rattle.nmgc_image.specs.declared.image.Image as shown
@@ -23,7 +23,7 @@ pub record IsReadWithin (limit : ℕ) (old new : Option (List ℕ)) (bytes : Lis
   pub end : IsAtEnd new
   pub within : length bytes ≤ limit
 
--- all bytes left in a source were read, and a script may have this number of bytes
+-- all bytes left in a source were read, and a script of some version may have this number of bytes
 abbrev pub IsRead : Option (List ℕ) → Option (List ℕ) → List ℕ → Type 0
 IsRead old new bytes = IsReadWithin most_script_bytes old new bytes
 
@@ -41,13 +41,15 @@ pub record IsPathOf (name : Name) (bytes : List ℕ) (output : Output) : Type 0 
   pub status : output.status ≡ Done
   pub none : output.report ≡ None
 
--- the bytes spell this script, and no other
+-- the bytes spell this script, and no other, and are no more than its version allows (`most_bytes`)
 pub record SpellsOnly (bytes : List ℕ) (script : Script) : Type 0 where
+  pub short : length bytes ≤ most_bytes bytes
   pub spells : Spells bytes script
   pub only : (other : Script) → Spells bytes other → other ≡ script
 
--- the bytes spell no script, and this is the first bad line with its cause
+-- the bytes spell no script, and this is the first bad line with its cause. They are no more than their version line allows
 pub record SpellsNone (bytes : List ℕ) (line : ℕ) (c : Cause) : Type 0 where
+  pub short : length bytes ≤ most_bytes bytes
   pub none : (script : Script) → Spells bytes script → ⊥
   pub fault : IsFaultOfText (end_of bytes) (kept_lines bytes) line c
 
@@ -61,15 +63,21 @@ pub record IsUpgraded (script : Script) (output : Output) : Type 0 where
 abbrev pub AnswersBytes : {X : Type 0} → (Script → X → Type 0) → List ℕ → Result X Refusal → Type 0
 AnswersBytes Gives bytes (Ok given) = (script : Script) × SpellsOnly bytes script × Gives script given
 AnswersBytes Gives bytes (Err (no.Bad line c)) = SpellsNone bytes line c
+AnswersBytes Gives bytes (Err no.TooLong) = most_bytes bytes < length bytes
 AnswersBytes Gives bytes (Err no.NoMemory) = Unit {0}
 AnswersBytes Gives bytes (Err _) = ⊥
+
+-- a script is too long: one byte more was taken than any script may have, or all bytes left in the source were read, and they
+-- are more than a script that begins so may have
+abbrev pub IsTooLong : Option (List ℕ) → Option (List ℕ) → Type 0
+IsTooLong old new = Takes old new (most_script_bytes + 1) ⊎ ((bytes : List ℕ) × IsRead old new bytes × (most_bytes bytes < length bytes))
 
 -- the answer to a script that is read, by the bytes left in the source before and after and by a rise of its count of faults.
 -- Each refusal has its cause, the same for all tasks that read a script.
 abbrev pub AnswersScript : {X : Type 0} → (Script → X → Type 0) → Option (List ℕ) → Option (List ℕ) → Type 0 → Result X Refusal → Type 0
 AnswersScript Gives old new rose (Err no.Usage) = ⊥
 AnswersScript Gives old new rose (Err no.ReadFault) = TakesUpTo old new most_script_bytes × rose
-AnswersScript Gives old new rose (Err no.TooLong) = Takes old new (most_script_bytes + 1)
+AnswersScript Gives old new rose (Err no.TooLong) = IsTooLong old new
 AnswersScript Gives old new rose (Err no.NoMemory) = TakesUpTo old new most_script_bytes
 AnswersScript Gives old new rose answer = (bytes : List ℕ) × IsRead old new bytes × AnswersBytes Gives bytes answer
 
@@ -221,10 +229,10 @@ IsFullOf script (Some report) = IsRunOf script report × IsHeapFull report.end �
 abbrev pub IsRunThrough : Script → Status → Option Report → Type 0
 IsRunThrough script status report = (status ≡ NoMemory) ⊎ (status ≡ Done) ⊎ ((status ≡ HeapFull) × IsFullOf script report)
 
--- completeness of a run: if neither the source nor the sink fails, a script within the limit is run through (`IsRunThrough`)
+-- completeness of a run: without a fault of source or sink, a script within its version's limit is run through (`IsRunThrough`)
 abbrev pub IsComplete : List (List ℕ) → Option (List ℕ) → Type 0 → Type 0 → Status → Option Report → Type 0
 IsComplete arguments left read_fault write_fault status report = (bytes : List ℕ) (script : Script) (task : Task) → Asks arguments task → IsRunning task →
-    left ≡ Some bytes → length bytes ≤ most_script_bytes → Spells bytes script
+    left ≡ Some bytes → length bytes ≤ most_bytes bytes → Spells bytes script
     → (read_fault → ⊥) → (write_fault → ⊥) → IsRunThrough script status report
 
 -- completeness of a bench: if the sink doesn't fail, the bench's script is run through (`IsRunThrough`)
@@ -232,10 +240,10 @@ abbrev pub IsBenchComplete : List (List ℕ) → Type 0 → Status → Option Re
 IsBenchComplete arguments write_fault status report = (batches : ℕ) → Asks arguments (Bench batches) → (write_fault → ⊥) →
     IsRunThrough (bench_script batches) status report
 
--- completeness of an upgrade: without a fault of source or sink, a script within the limit gives `Done`, or memory runs out
+-- completeness of an upgrade: as of a run, a script within its version's limit gives `Done`, or memory runs out
 abbrev pub IsUpgradeComplete : List (List ℕ) → Option (List ℕ) → Type 0 → Type 0 → Status → Type 0
 IsUpgradeComplete arguments left read_fault write_fault status = (bytes : List ℕ) (script : Script) → Asks arguments Upgrade → left ≡ Some bytes →
-    length bytes ≤ most_script_bytes → Spells bytes script
+    length bytes ≤ most_bytes bytes → Spells bytes script
     → (read_fault → ⊥) → (write_fault → ⊥) → (status ≡ NoMemory) ⊎ (status ≡ Done)
 
 -- completeness of a path: without a fault of source or sink, any name and an image in the limit give `Done` or `NoMemory`

@@ -18,7 +18,7 @@ use nmgc_journal::text::text;
 use nmgc_limits::MAX_SCRIPT_BYTES;
 use nmgc_lists::NoMemory;
 use nmgc_round::OpenGate;
-use nmgc_script::{Script, ScriptFault, parse};
+use nmgc_script::{Script, ScriptFault, is_too_long, parse};
 use std::alloc::Global;
 use std::mem;
 use std::thread::Threads;
@@ -58,6 +58,9 @@ pub fn run_bytes<R: Threads + Sync>(
     requires { vec_len bytes ≤ most_script_bytes }
     ensures { AnswersBytes IsRan bytes.items result }
 {
+    if is_too_long(&bytes) {
+        return Err(Refusal::TooLong);
+    }
     let script = script_of(alloc, bytes)?;
     Ok(run_script(alloc, rt, script)?)
 }

@@ -18,7 +18,7 @@ pub enum Task {
     Run,
     /// `bench N`: runs the bench's script with N batches, and writes the summary of its report.
     Bench { batches: u32 },
-    /// `upgrade`: reads a script from the source to its end, and writes its plain spelling in the last version.
+    /// `upgrade`: reads a script from the source to its end, and writes the plain spelling of its upgrade.
     Upgrade,
     /// `image`: reads and runs a script as `run` does, and writes the image of the heap that its run left.
     Image,

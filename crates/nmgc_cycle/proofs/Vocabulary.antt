@@ -17,7 +17,7 @@ pub use Rattle.nmgc_object.specs.{FinQueue.FinQueue, Places.InSegment, Places.Is
 pub use Rattle.nmgc_round.specs.{Empty.empty_array, Empty.first_opening, Events.rows_in, Finishing.HasAll, Finishing.IsFinished, Finishing.Leaves, Finishing.places_then, Gate.passed, Marking.Marks, Marking.marks_after, Marking.marks_of, Marking.name_at, Marking.with_name, Naming.AllReply, Objects.earlier, Rule.now, Seat.IsAt, Seat.RoundSeat, Seat.opening_of, Seat.seen as seat_seen, Seating.all_together, Seating.alone, Seating.alones, Seating.collecting, Starting.CanOpen, View.DoneRow, View.FixedWord, View.Hand, View.Opening, View.Part, View.Scan, View.Seen, View.Seen as View, View.hand_of, View.no_hand, View.whole, declared.table.Round.Round, laws.Common.alones_count}
 pub use Rattle.nmgc_run_laws.specs.{Course.CyclesBeginInCourse, Course.IsInCourse, Course.IsLastBegun, Course.IsStateInCourse, Limits.HasGoodPlan, Places.BlocksArePlaces, Sound.AreSoundBlocks, Sound.IsAble, Sound.IsInCycle, Sound.IsOfSnapshot, Sound.IsRunnable, Sound.IsSoundRound, Sound.IsSoundState, Sound.LieKnown, Sound.WaitKnown, Statements.answered_count, laws.Closings.one_more, laws.Common.places_low, laws.Course.SameWait, laws.Course.all_placing_waits, laws.Course.none_retired as none_then, laws.Course.promotions_stay, laws.Course.rounds_stay, laws.Course.runs_are, laws.Crowding.few_in_each, laws.Crowding.lawful_are_of_runs, laws.Crowding.runnable_of, laws.Filing.begun_filed, laws.Filing.each_filed, laws.Filing.places_filed, laws.Filing.retired_filed, laws.Lefts.left_is_determined, laws.Lefts.round_left, laws.Lefts.slice_count, laws.Lefts.stop_left, laws.Limits.scripts_have_good_plans, laws.Places.block_used, laws.Places.blocks_at_stop, laws.Programs.slice_few, laws.Runs.opening_worked, laws.Runs.rounds_are_sound, laws.Runs.start_programs, laws.Runs.states_are_sound, laws.States.known_then, laws.Stops.young_fresh, laws.Sweeps.each_lie, laws.Sweeps.each_waits, laws.Sweeps.sweeps_keep, laws.Tracks.tracked_fewer, laws.Tracks.tracked_itself, laws.Tracks.tracked_known, laws.Turns.last_is_of_turn, laws.Turns.run_goes_on, laws.Turns.one_more_turn}
 pub use Rattle.nmgc_run_spec.specs.{Closing.ClosesNow, Closing.ClosesOrWaits, Closing.IsForcedSoon, Closing.IsSoon, Heap.FitBlocks, Heap.HasAllRegisters, Heap.HeapStandsFor, Heap.HoldsAfterRound, Heap.HoldsAtStop, Heap.queues_of, Heap.registers_of, Heap.serials_of, Heap.snapshots, Lawful.IsLawful, Round.IsRound, Round.SweepsBeside, Round.answered, Round.noted, Round.own_rows, Run.AreTurns, Run.IsRun, Run.IsTurn, Run.Run, Run.AreRowsOf, Run.Turn, Run.last_state, Run.state_after, Run.with_turn, Slice.ends_slice, Slice.has_left, Slice.is_collect, Slice.is_full, Slice.is_next, Slice.program_of, Slice.rest_of, Slice.slice, Slice.slice_of, Slice.slices, Slice.some_asks, State.Plan, State.Progress, State.State, State.cycle_started, State.free_count, State.free_count as run_free, State.idle, State.is_idle, State.layout_of, State.marking, State.next_cycle, State.phase_of, State.plan_of, State.reserve_of, State.start, State.sweeping, State.waiting_count, Stop.BeginsOrWaits, Stop.DoesFullCycle, Stop.EndsOrWaits, Stop.Finishes, Stop.IsCensus, Stop.IsCycleDue, Stop.IsFullDue, Stop.IsStop, Stop.IsSwept, Stop.Proceeds, Stop.Promotes, Stop.SweepsRest, Stop.answer_of, Stop.is_done, Stop.is_short, Stop.stop_row, Stop.with_all_retired}
-pub use Rattle.nmgc_script.specs.{Limits.IsInLimits, declared.script.Config.Config, declared.script.Script.Script, laws.Versions.threads_few}
+pub use Rattle.nmgc_script.specs.{Limits.IsInLimits, declared.script.Config.Config, declared.script.Script.Script, laws.Versions.segments_few, laws.Versions.threads_few, laws.Versions.total_few}
 pub use Rattle.nmgc_segment.specs.{Marks.IsEpoch, Marks.epoch_of, Segment.Segment, Segment.free_segment, Segment.mark_of, laws.Common.epoch_sound}
 pub use Rattle.nmgc_snapshot_laws.specs.State.{State as Core, opening, unmarked}
 pub use Rattle.nmgc_sweep.specs.{NameTable.AreNamed, NameTable.HaveEntries, NameTable.HaveNoted, NameTable.entry_of, NameTable.named_at, Statements.ClosingBeginsWork, Statements.EndShowsCensus, Statements.IsClosedNow, Statements.KeepsWaiting, Statements.LeftIsCounted, Statements.LeftStays, Statements.StartNotesSegments, Statements.ShowsCensus, Sweeper.AreLeft, Sweeper.HasNotes, Sweeper.Sweeper, Sweeper.turned, Sweeping.IsSweeping, Work.HasBegun, Work.IsAtWork, laws.NameTable.low_entry, laws.NameTable.named_begun, laws.NameTable.named_first, laws.NameTable.named_noted, laws.NameTable.named_retired, laws.NameTable.named_swept, laws.NameTable.one_noted}

@@ -26,9 +26,9 @@ pub record IsSegmentSize (words : ℕ) : Type 0 where
 abbrev pub most_nursery_words : ℕ
 most_nursery_words = 4194304
 
--- the most words of all segments and nurseries together: 32 MiB
+-- the most words of all segments and nurseries together: 2 GiB; a version of scripts may allow fewer
 abbrev pub most_heap_words : ℕ
-most_heap_words = 4194304
+most_heap_words = 268435456
 
 -- the most commands of a slice
 abbrev pub most_slice : ℕ
@@ -42,6 +42,6 @@ most_quota = 1048576
 abbrev pub most_trigger : ℕ
 most_trigger = 65536
 
--- the most bytes of a script
+-- the most bytes of a script: 64 MiB; a version of scripts may allow fewer
 abbrev pub most_script_bytes : ℕ
-most_script_bytes = 16777216
+most_script_bytes = 67108864

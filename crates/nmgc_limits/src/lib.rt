@@ -1,6 +1,6 @@
 //! The limits of the size of a heap and of the numbers of a run.
 //!
-//! The limits keep every address in the heap within 32 bits, and the whole heap within 32 MiB. Each number is written twice:
+//! The limits keep every address in the heap within 32 bits, and the whole heap within 2 GiB. Each number is written twice:
 //! in `specs/Limits.antt`, which every contract cites, and in the constants below, which the code uses. `limits_are_these`
 //! proves that the two are equal. So the proof fails if a crate compares with another number, or if a constant is changed
 //! alone.
@@ -27,8 +27,8 @@ pub const MAX_SEGMENT_WORDS: u32 = 4096;
 /// The most words of a nursery.
 pub const MAX_NURSERY_WORDS: u32 = 4_194_304;
 
-/// The most words of all segments and nurseries together.
-pub const MAX_HEAP_WORDS: u32 = 4_194_304;
+/// The most words of all segments and nurseries together. A version of scripts may allow fewer.
+pub const MAX_HEAP_WORDS: u32 = 268_435_456;
 
 /// The most commands of a slice.
 pub const MAX_SLICE: u32 = 65_536;
@@ -39,8 +39,8 @@ pub const MAX_QUOTA: u32 = 1_048_576;
 /// The most filled segments that a trigger may wait for.
 pub const MAX_TRIGGER: u32 = 65_536;
 
-/// The most bytes of a script.
-pub const MAX_SCRIPT_BYTES: usize = 16_777_216;
+/// The most bytes of a script. A version of scripts may allow fewer.
+pub const MAX_SCRIPT_BYTES: usize = 67_108_864;
 
 /// Proves that each constant here equals the number that `specs/Limits.antt` defines for it. It does nothing else: its
 /// contract is the law.

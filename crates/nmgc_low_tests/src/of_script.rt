@@ -1,5 +1,5 @@
-//! Scripts, good and bad, as tables. Refused texts are in `examples/rows/refusals.rows`.
-use nmgc_script::{Cause, ScriptFault, generate, parse, print, spells_one_script, upgrade};
+//! Scripts, good and bad, as tables. Refused texts are in `examples/rows/refusals.rows`, limits and upgrades in `versions.rows`.
+use nmgc_script::{Cause, ScriptFault, generate, parse, print, spells_one_script};
 use std::alloc::Global;
 use std::process::Abort;
 use std::test::Fail;
@@ -16,15 +16,6 @@ const SPACED: &str =
     "# sections\n\nnmgc 1\n#\nheap 1 16 16 1 1 65536\n\nthread 0\n# nothing\nthread 1\nyield\n\n\nthread 2\n#end";
 
 const PLAIN: &str = "nmgc 1\nheap 1 16 16 1 1 65536\nthread 0\nthread 1\nyield\nthread 2\n";
-
-// Heap lines at the limits.
-const HEAPS: [&str; 5] = [
-    "1 16 16 1 1 0",
-    "65536 16 16 1 1 0",
-    "1 4096 4096 65536 1048576 65536",
-    "32768 64 2097152 1 1 0",
-    "1 2048 2048 1 1 0",
-];
 
 // A small script, which is cut after a number of bytes, and the first fault then.
 const CUT: &str = "nmgc 1\nheap 32 64 64 100 1000 0\nthread 0\nshow g\n";
@@ -69,16 +60,6 @@ fn reports_the_first_bad_line(rt: HostRuntime) -> Result<(), Fail> {
             b"nmgc 1\nheap 32 64 64 100 1000 0\nthread 0\nshow \xc3\n"
         ) == Some((4, Cause::Operand))
     );
-    Ok(())
-}
-
-#[test]
-fn keeps_the_limits_of_a_heap(rt: HostRuntime) -> Result<(), Fail> {
-    for numbers in &HEAPS {
-        let front = joined(rt.alloc(), "nmgc 1\nheap ", numbers)?;
-        let text = joined(rt.alloc(), front.as_str(), "\nthread 0\n")?;
-        assert!(rt; reported(&rt, rt.alloc(), text.as_bytes()) == None);
-    }
     Ok(())
 }
 
@@ -132,30 +113,17 @@ fn sections(alloc: Global, version: u32, count: u32) -> Result<String, Fail> {
 }
 
 #[test]
-fn reads_the_second_version(rt: HostRuntime) -> Result<(), Fail> {
+fn reads_the_later_versions(rt: HostRuntime) -> Result<(), Fail> {
     let same = reprinted(&rt, rt.alloc(), SECOND)?;
     assert!(rt; same.as_slice() == SECOND.as_bytes());
     let large = joined(rt.alloc(), SECOND, "num r64 5\n")?;
     assert!(rt; reported(&rt, rt.alloc(), large.as_bytes()) == Some((7, Cause::Operand)));
-    for (version, most) in [(1u32, 8u32), (2, 32)] {
+    for (version, most) in [(1u32, 8u32), (2, 32), (3, 32)] {
         let few = sections(rt.alloc(), version, most)?;
         assert!(rt; reported(&rt, rt.alloc(), few.as_bytes()) == None);
         let many = sections(rt.alloc(), version, most + 1)?;
         assert!(rt; reported(&rt, rt.alloc(), many.as_bytes()) == Some((most + 3, Cause::Thread)));
     }
-    Ok(())
-}
-
-#[test]
-fn upgrades_to_the_second_version(rt: HostRuntime) -> Result<(), Fail> {
-    let script = upgrade(parse(rt.alloc(), PLAIN.as_bytes())?);
-    let text = print(rt.alloc(), &script)?;
-    let want = joined(
-        rt.alloc(),
-        "nmgc 2\n",
-        "heap 1 16 16 1 1 65536\nthread 0\nthread 1\nyield\nthread 2\n",
-    )?;
-    assert!(rt; text.as_slice() == want.as_bytes());
     Ok(())
 }
 

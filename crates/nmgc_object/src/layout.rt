@@ -77,7 +77,8 @@ impl Layout {
         ensures { result ≡ reserve_count self.now }
     {
         let mutators = u32::from(self.mutators);
-        2 * mutators * self.nursery / self.words + u32::from(self.classes()) * mutators
+        let twice = 2 * u64::from(mutators) * u64::from(self.nursery);
+        (twice / u64::from(self.words)) as u32 + u32::from(self.classes()) * mutators
     }
 }
 

@@ -1,5 +1,5 @@
 -- The bench's script is within the limits, and its programs are short.
-use Rattle.nmgc_script.proofs.Vocabulary.{◌≡◌, ◌≤◌, ◌<◌, ◌∙◌, ℕ, zero, suc, ◌+◌, ◌*◌, List, [], ◌∷◌, ◌++◌, length, refl, arith, add-one, lit<, lit≤, length-append, ap, append_assoc, length-replicate, All-append, All-cons, All-nil, All-replicate, All, replicate, ones, most_script_bytes, Fits, HasRegistersBelow, IsOperand, IsOperandBelow, Command, Nil, Set, Register, Shared, FitsConfig, FitsScript, HasFewCommands, most_batches, list_cells, cell, batch, repeated, bench_program, bench_config, bench_script}
+use Rattle.nmgc_script.proofs.Vocabulary.{◌≡◌, ◌≤◌, ◌<◌, ◌∙◌, ℕ, zero, suc, ◌+◌, ◌*◌, List, [], ◌∷◌, ◌++◌, length, refl, arith, add-one, lit<, lit≤, length-append, ap, append_assoc, length-replicate, All-append, All-cons, All-nil, All-replicate, All, replicate, most_script_bytes, Fits, HasRegistersBelow, IsOperand, IsOperandBelow, Command, Nil, Set, Register, Shared, FitsScript, HasFewCommands, most_batches, list_cells, cell, batch, repeated, bench_program, bench_script, bench_sizes_fit}
 
 -- a list once more
 pub once_more : {A : Type 0} (n : ℕ) (xs : List A) → repeated (n + 1) xs ≡ repeated n xs ++ xs
@@ -70,21 +70,6 @@ program_fits batches mutator h = All-repeated (Fits 4096) batches (batch mutator
 program_is_short : (batches mutator : ℕ) → batches ≤ most_batches → length (bench_program batches mutator) ≤ most_script_bytes
 program_is_short batches mutator h = rw (length-repeated batches (batch mutator), length-batch mutator) (omega arith)
 
-config_fits : FitsConfig bench_config
-unfolding ones
-config_fits = record {
-  some_segments = lit≤ tt;
-  segments = lit≤ tt;
-  words = record { power = refl; least = lit≤ tt; most = lit≤ tt };
-  some_nursery = lit≤ tt;
-  nursery = lit≤ tt;
-  some_slice = lit≤ tt;
-  slice = lit≤ tt;
-  some_quota = lit≤ tt;
-  quota = lit≤ tt;
-  trigger = lit≤ tt;
-}
-
 -- a property of each mutator's program holds of all programs
 each_program : (P : List Command → Type 0) (batches : ℕ) → ((mutator : ℕ) → mutator < 4 → P (bench_program batches mutator)) →
     All P (bench_script batches).threads
@@ -99,7 +84,7 @@ each_program P batches h =
 pub bench_fits : (batches : ℕ) → FitsScript (bench_script batches)
 bench_fits batches = record {
   version = refl;
-  config = config_fits;
+  config = bench_sizes_fit;
   some_thread = lit≤ tt;
   threads = lit≤ tt;
   total = lit≤ tt;

@@ -1,9 +1,8 @@
 -- The line and the cause that reading gives are the first bad line and its first cause.
-use Rattle.std.proofs.{Common.◌≡◌, Common.◌≢◌, Common.◌≤◌, Common.◌<◌, Common.◌+◌, Common.ℕ, Common.List, Common.[], Common.◌∷◌, Common.length, Common.refl, Common.sym, Common.ap, Common.subst, Common.◌∙◌, Common.arith, Common.inl, Common.inr, Common.Bool, Common.true, Common.false, Common.cond, Common.codes, Common.leb, Common.eqb, Common.Result, Common.Ok, Common.Err, Common.IfErr, lemmas.Bool.leb-false, lemmas.Bool.eq-eqb, lemmas.Bool.eqb-true, lemmas.Slice.Eq.bytes_eq-Decides}
+use Rattle.std.proofs.{Common.◌≡◌, Common.◌≢◌, Common.◌≤◌, Common.◌<◌, Common.◌^◌, Common.◌+◌, Common.ℕ, Common.List, Common.[], Common.◌∷◌, Common.length, Common.refl, Common.sym, Common.ap, Common.subst, Common.◌∙◌, Common.arith, Common.inl, Common.inr, Common.Bool, Common.true, Common.false, Common.cond, Common.codes, Common.leb, Common.eqb, Common.Result, Common.Ok, Common.Err, Common.IfErr, lemmas.Bool.leb-false, lemmas.Bool.eq-eqb, lemmas.Bool.eqb-true, lemmas.Slice.Eq.bytes_eq-Decides}
 use Rattle.std.specs.Str.{bytes_eq}
-use Rattle.nmgc_limits.specs.Limits.{most_heap_words}
 use Rattle.nmgc_world_spec.specs.{declared.command.Command.Command, Command.HasRegistersBelow, Command.HasNumbers, Command.words_made}
-use Rattle.nmgc_script.specs.{declared.fault.Cause.Cause, declared.fault.ScriptFault.ScriptFault, declared.script.Config.Config, declared.script.Script.Script, declared.version.Version.Version, declared.sections.Entry.Entry, declared.verbs.Verb.Verb, laws.Versions.IsUsable, laws.Versions.usable_version, laws.Versions.registers_wider, Limits.IsVersion, Limits.total_words, Limits.version_1, Limits.version_2, Spelling.spaced, Spelling.verb_name, Spelling.command_words, Spelling.heap_words, Spelling.section_words, Spelling.version_words, Text.words_of, Text.kept_lines, Text.end_of, Faults.first_of, Faults.HasArity, Faults.HasToBegin, Faults.HasFault, Faults.order_of, Faults.IsFirstFault, Faults.IsFaultless, Faults.begun_with, Faults.IsFaultInRest, Faults.IsFaultFromHeap, Faults.IsFaultOfText, Faults.IsFaultOf, Reading.◌>>=◌, Reading.or_cause, Reading.verb_at, Reading.operands_at, Reading.sized, Reading.command_at, Reading.thread_at, Reading.section_at, Reading.is_section, Reading.entry_at, Reading.begun_after, Reading.with_entry, Reading.rest_at, Reading.programs_at, Reading.threads_at, Reading.version_at, Reading.heap_words_at, Reading.numbers_at, Reading.heap_at, Reading.script_at, Reading.at_line, Reading.GivesAt, laws.Lines.spaced-words_of, laws.Lines.words_of-line, laws.Lines.heap_line_words, laws.Lines.first_line, laws.Lines.second_line}
+use Rattle.nmgc_script.specs.{declared.fault.Cause.Cause, declared.fault.ScriptFault.ScriptFault, declared.script.Config.Config, declared.script.Script.Script, declared.version.Version.Version, declared.sections.Entry.Entry, declared.verbs.Verb.Verb, laws.Versions.IsUsable, laws.Versions.usable_version, laws.Versions.registers_wider, Limits.IsVersion, Limits.total_words, Limits.version_1, Limits.version_2, Limits.version_3, Spelling.spaced, Spelling.verb_name, Spelling.command_words, Spelling.heap_words, Spelling.section_words, Spelling.version_words, Text.words_of, Text.kept_lines, Text.end_of, Faults.first_of, Faults.HasArity, Faults.HasToBegin, Faults.HasFault, Faults.order_of, Faults.IsFirstFault, Faults.IsFaultless, Faults.begun_with, Faults.IsFaultInRest, Faults.IsFaultFromHeap, Faults.IsFaultOfText, Faults.IsFaultOf, Reading.◌>>=◌, Reading.or_cause, Reading.verb_at, Reading.operands_at, Reading.sized, Reading.command_at, Reading.thread_at, Reading.section_at, Reading.is_section, Reading.entry_at, Reading.begun_after, Reading.with_entry, Reading.rest_at, Reading.programs_at, Reading.threads_at, Reading.version_at, Reading.heap_words_at, Reading.numbers_at, Reading.heap_at, Reading.script_at, Reading.at_line, Reading.GivesAt, laws.Lines.spaced-words_of, laws.Lines.words_of-line, laws.Lines.heap_line_words, laws.Lines.first_line, laws.Lines.second_line, laws.Lines.third_line}
 use Rattle.nmgc_script.specs.declared.fault.Cause.TheVariants as cause
 use Rattle.nmgc_script.specs.declared.fault.ScriptFault.TheVariants as script_fault
 use Rattle.nmgc_script.specs.declared.sections.Entry.TheVariants as entry
@@ -40,12 +39,12 @@ thread_fails ver usable (name ∷ number ∷ other ∷ others) = refl
 thread_fails ver usable (name ∷ number ∷ []) =
     fails_choose cause.Thread (bytes_eq name (codes "thread")) (or_cause cause.Thread _) (Err cause.Thread) (or_cause_fails cause.Thread _) refl
 
-heap_fails : (words : List (List ℕ)) → FailsBy cause.Heap (heap_words_at words)
+heap_fails : (v : Version) (words : List (List ℕ)) → FailsBy cause.Heap (heap_words_at v words)
 unfolding heap_words_at
-heap_fails [] = refl
-heap_fails (name ∷ words) =
-    fails_choose cause.Heap (bytes_eq name (codes "heap")) (or_cause cause.Heap (numbers_at words)) (Err cause.Heap)
-    (or_cause_fails cause.Heap (numbers_at words)) refl
+heap_fails v [] = refl
+heap_fails v (name ∷ words) =
+    fails_choose cause.Heap (bytes_eq name (codes "heap")) (or_cause cause.Heap (numbers_at v words)) (Err cause.Heap)
+    (or_cause_fails cause.Heap (numbers_at v words)) refl
 
 -- THE LINE OF A COMMAND
 
@@ -255,7 +254,7 @@ module _ (ver : Version) (usable : IsUsable ver) (h : Config) (n : ℕ) where
       before cause.Operand lt f = absurd (omega arith)
       before cause.Size lt f = absurd (omega arith)
 
-  total_fault : (words : List (List ℕ)) → HasToBegin n words → n < ver.threads → words ≡ section_words n → most_heap_words < total_words h (n + 1) →
+  total_fault : (words : List (List ℕ)) → HasToBegin n words → n < ver.threads → words ≡ section_words n → ver.heap_words < total_words h (n + 1) →
       IsFirstFault ver h n words cause.Total
   total_fault words begins few same large = record { here = (begins, large); none_before = before }
     where
@@ -291,7 +290,7 @@ module _ (ver : Version) (usable : IsUsable ver) (h : Config) (n : ℕ) where
             same) (thread_fault words begins (λ few is. two_results (thread_at ver words) n p.0 (ap (thread_at ver) is ∙
             (thread_reads ver usable).again n few) p.1))
         | inl t ↦
-            let rest : Result Entry Cause = cond (leb (total_words h (n + 1)) most_heap_words) (Ok entry.Section) (Err cause.Total) in
+            let rest : Result Entry Cause = cond (leb (total_words h (n + 1)) ver.heap_words) (Ok entry.Section) (Err cause.Total) in
             let goes : section_at ver h n words ≡ cond (eqb t.0 n) rest (Err cause.Thread) = goes_to (thread_at ver words) _ t.0 t.1 in
             elim (chosen (eqb t.0 n) rest (Err cause.Thread) (Err e) (sym goes ∙ bad)) [
               | inr p ↦ subst (IsFirstFault ver h n words) (err_is {A = Entry} cause.Thread e p.1) (thread_fault words begins (λ few is.
@@ -301,11 +300,11 @@ module _ (ver : Version) (usable : IsUsable ver) (h : Config) (n : ℕ) where
               | inl p ↦
                   let same : t.0 ≡ n = eqb-true t.0 n p.0 in
                   let takes = (thread_reads ver usable).takes words t.0 t.1 in
-                  elim (chosen (leb (total_words h (n + 1)) most_heap_words) (Ok entry.Section) (Err cause.Total) (Err e) p.1) [
+                  elim (chosen (leb (total_words h (n + 1)) ver.heap_words) (Ok entry.Section) (Err cause.Total) (Err e) p.1) [
                     | inl q ↦ absurd (let never : Ok entry.Section ≡ Err e = q.1 in cc)
                     | inr q ↦ subst (IsFirstFault ver h n words) (err_is {A =
                         Entry} cause.Total e q.1) (total_fault words begins (subst (λ (k : ℕ). k < ver.threads) same takes.1) (subst (λ (k : ℕ).
-                        words ≡ section_words k) same takes.0) (leb-false (total_words h (n + 1)) most_heap_words q.0))
+                        words ≡ section_words k) same takes.0) (leb-false (total_words h (n + 1)) ver.heap_words q.0))
                   ]
             ]
       ]
@@ -410,27 +409,28 @@ threads_fault ver usable h end (line ∷ lines) number c bad =
     ]
 
 heap_fault : (ver : Version) (usable : IsUsable ver) (end : ℕ) (lines : List (ℕ × List ℕ)) (number : ℕ) (c : Cause) →
-    (heap_at end lines >>= λ p. threads_at ver end p.0 p.1) ≡ Err (number, c) → IsFaultFromHeap ver end lines number c
+    (heap_at ver end lines >>= λ p. threads_at ver end p.0 p.1) ≡ Err (number, c) → IsFaultFromHeap ver end lines number c
 unfolding heap_at
 heap_fault ver usable end [] number c bad =
     let same : ◌≡◌ {A = ℕ × Cause} (end, cause.Heap) (number, c) = err_is {A = List (List Command)} (end, cause.Heap) (number, c) bad in
     (sym (ap (λ (p : ℕ × Cause). p.0) same), sym (ap (λ (p : ℕ × Cause). p.1) same))
 heap_fault ver usable end (line ∷ lines) number c bad =
     let words = words_of line.1 in
-    elim (result_cases (heap_words_at words)) [
+    let few : ver.segments < 2 ^ 64 = omega (arith, usable.segments) in
+    elim (result_cases (heap_words_at ver words)) [
       | inr p ↦
-          let is_heap : p.0 ≡ cause.Heap = fails_is cause.Heap p.0 (heap_words_at words) (heap_fails words) p.1 in
-          let stops : (heap_at end (line ∷ lines) >>= λ q. threads_at ver end q.0 q.1) ≡ Err (line.0, p.0) = rw p.1 refl in
+          let is_heap : p.0 ≡ cause.Heap = fails_is cause.Heap p.0 (heap_words_at ver words) (heap_fails ver words) p.1 in
+          let stops : (heap_at ver end (line ∷ lines) >>= λ q. threads_at ver end q.0 q.1) ≡ Err (line.0, p.0) = rw p.1 refl in
           let same : ◌≡◌ {A = ℕ × Cause} (line.0, p.0) (number, c) = err_is {A = List (List Command)} (line.0, p.0) (number, c) (sym stops ∙ bad) in
           inl (
             sym (ap (λ (q : ℕ × Cause). q.0) same),
             sym (ap (λ (q : ℕ × Cause). q.1) same) ∙ is_heap,
-            λ h fits is. two_results (heap_words_at words) h p.0 (ap (λ (l : List ℕ). heap_words_at (words_of l)) is ∙
-                ap heap_words_at (words_of-line (heap_words h) (heap_line_words h fits)) ∙ heap_again h fits) p.1,
+            λ h fits is. two_results (heap_words_at ver words) h p.0 (ap (λ (l : List ℕ). heap_words_at ver (words_of l)) is ∙
+                ap (heap_words_at ver) (words_of-line (heap_words h) (heap_line_words ver.segments few h fits)) ∙ heap_again ver few h fits) p.1,
           )
       | inl h ↦
-          let t = heap_takes words h.0 h.1 in
-          let goes : (heap_at end (line ∷ lines) >>= λ q. threads_at ver end q.0 q.1) ≡ threads_at ver end h.0 lines = rw h.1 refl in
+          let t = heap_takes ver few words h.0 h.1 in
+          let goes : (heap_at ver end (line ∷ lines) >>= λ q. threads_at ver end q.0 q.1) ≡ threads_at ver end h.0 lines = rw h.1 refl in
           inr (h.0, t.1, sym (spaced-words_of line.1) ∙ ap spaced t.0, threads_fault ver usable h.0 end lines number c (sym goes ∙ bad))
     ]
 
@@ -444,7 +444,7 @@ versioned ver lines = Ok (ver, lines)
 
 -- the rest of the script, read after the version line
 abbrev script_after : ℕ → Version × List (ℕ × List ℕ) → Result Script (ℕ × Cause)
-script_after end v = heap_at end v.1 >>= λ heap. threads_at v.0 end heap.0 heap.1 >>= λ threads.
+script_after end v = heap_at v.0 end v.1 >>= λ heap. threads_at v.0 end heap.0 heap.1 >>= λ threads.
     Ok (let made : Script = record { version = v.0.number; config = heap.0; threads = threads } in made)
 
 version_fault : (ver : Version) → IsVersion ver → (end : ℕ) (line : ℕ × List ℕ) (lines : List (ℕ × List ℕ)) (number : ℕ) (c : Cause) →
@@ -453,7 +453,7 @@ version_fault ver known end line lines number c is h = inr (
   ver,
   known,
   is,
-  heap_fault ver (usable_version ver known) end lines number c (err_inner (heap_at end lines) (λ heap.
+  heap_fault ver (usable_version ver known) end lines number c (err_inner (heap_at ver end lines) (λ heap.
       threads_at ver end heap.0 heap.1) (λ heap threads. let made : Script = record { version = ver.number; config = heap.0; threads = threads } in
       made) (number, c) h),
 )
@@ -463,27 +463,32 @@ unfolding script_at version_at
 script_fault_is end [] number c bad =
     let same : ◌≡◌ {A = ℕ × Cause} (end, cause.Version) (number, c) = err_is {A = Script} (end, cause.Version) (number, c) bad in
     (sym (ap (λ (p : ℕ × Cause). p.0) same), sym (ap (λ (p : ℕ × Cause). p.1) same))
-script_fault_is end (line ∷ lines) number c bad = go (bytes_eq line.1 (codes "nmgc 1")) (bytes_eq line.1 (codes "nmgc 2")) refl refl bad
+script_fault_is end (line ∷ lines) number c bad =
+    go (bytes_eq line.1 (codes "nmgc 1")) (bytes_eq line.1 (codes "nmgc 2")) (bytes_eq line.1 (codes "nmgc 3")) refl refl refl bad
   where
     -- the line differs from a version's line
     differs : (text : List ℕ) → bytes_eq line.1 text ≡ false → line.1 ≡ text → ⊥
     differs text is other = absurd (let never : false ≡ true = sym is ∙ (bytes_eq-Decides line.1 text).1 other in cc)
 
-    no_version : bytes_eq line.1 (codes "nmgc 1") ≡ false → bytes_eq line.1 (codes "nmgc 2") ≡ false → (v : Version) → IsVersion v →
-        line.1 ≢ spaced (version_words v.number)
-    no_version is also v (inl e) other = differs (codes "nmgc 1") is (other ∙ ap (λ (w : Version). spaced (version_words w.number)) e ∙ first_line)
-    no_version is also v (inr e) other = differs (codes "nmgc 2") also (other ∙ ap (λ (w : Version). spaced (version_words w.number)) e ∙ second_line)
+    no_version : bytes_eq line.1 (codes "nmgc 1") ≡ false → bytes_eq line.1 (codes "nmgc 2") ≡ false → bytes_eq line.1 (codes "nmgc 3") ≡ false →
+        (v : Version) → IsVersion v → line.1 ≢ spaced (version_words v.number)
+    no_version is also too v (inl e) other = differs (codes "nmgc 1") is (other ∙ ap (λ (w : Version). spaced (version_words w.number)) e ∙ first_line)
+    no_version is also too v (inr (inl e)) other =
+        differs (codes "nmgc 2") also (other ∙ ap (λ (w : Version). spaced (version_words w.number)) e ∙ second_line)
+    no_version is also too v (inr (inr e)) other =
+        differs (codes "nmgc 3") too (other ∙ ap (λ (w : Version). spaced (version_words w.number)) e ∙ third_line)
 
-    go : (b d : Bool) → bytes_eq line.1 (codes "nmgc 1") ≡ b → bytes_eq line.1 (codes "nmgc 2") ≡ d →
-        (cond b (versioned version_1 lines) (cond d (versioned version_2 lines) (Err (line.0, cause.Version))) >>= script_after end) ≡ Err (
-          number,
-          c,
-        ) → IsFaultOfText end (line ∷ lines) number c
-    go true d is also h = version_fault version_1 (inl refl) end line lines number c ((bytes_eq-Decides line.1 (codes "nmgc 1")).0 is ∙ sym first_line) h
-    go false true is also h = version_fault version_2 (inr refl) end line lines number c ((bytes_eq-Decides line.1 (codes "nmgc 2")).0 also ∙ sym second_line) h
-    go false false is also h =
+    go : (b d f : Bool) → bytes_eq line.1 (codes "nmgc 1") ≡ b → bytes_eq line.1 (codes "nmgc 2") ≡ d → bytes_eq line.1 (codes "nmgc 3") ≡ f →
+        (cond b (versioned version_1 lines) (cond d (versioned version_2 lines) (cond f (versioned version_3 lines) (Err (line.0, cause.Version)))) >>=
+        script_after end) ≡ Err (number, c) → IsFaultOfText end (line ∷ lines) number c
+    go true d f is also too h = version_fault version_1 (inl refl) end line lines number c ((bytes_eq-Decides line.1 (codes "nmgc 1")).0 is ∙ sym first_line) h
+    go false true f is also too h =
+        version_fault version_2 (inr (inl refl)) end line lines number c ((bytes_eq-Decides line.1 (codes "nmgc 2")).0 also ∙ sym second_line) h
+    go false false true is also too h =
+        version_fault version_3 (inr (inr refl)) end line lines number c ((bytes_eq-Decides line.1 (codes "nmgc 3")).0 too ∙ sym third_line) h
+    go false false false is also too h =
         let same : ◌≡◌ {A = ℕ × Cause} (line.0, cause.Version) (number, c) = err_is {A = Script} (line.0, cause.Version) (number, c) h in
-        inl (sym (ap (λ (p : ℕ × Cause). p.0) same), sym (ap (λ (p : ℕ × Cause). p.1) same), no_version is also)
+        inl (sym (ap (λ (p : ℕ × Cause). p.0) same), sym (ap (λ (p : ℕ × Cause). p.1) same), no_version is also too)
 
 -- the reported fault is the first bad line and its first cause
 pub reported : (bytes : List ℕ) (r : Result Script ScriptFault) → GivesAt (λ s. s) r (script_at (end_of bytes) (kept_lines bytes)) →

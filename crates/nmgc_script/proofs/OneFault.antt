@@ -1,7 +1,7 @@
 -- A text spells a script or has one first bad line with one first cause, and never both.
-use Rattle.std.proofs.{Common.◌≡◌, Common.◌≢◌, Common.ℕ, Common.zero, Common.suc, Common.List, Common.[], Common.◌∷◌, Common.get_or, Common.refl, Common.sym, Common.ap, Common.subst, Common.◌∙◌, Common.arith, Common.inl, Common.inr, Common.codes, Common.Ok, lemmas.Bool.cases_order}
+use Rattle.std.proofs.{Common.◌≡◌, Common.◌≢◌, Common.◌<◌, Common.◌^◌, Common.ℕ, Common.zero, Common.suc, Common.List, Common.[], Common.◌∷◌, Common.refl, Common.sym, Common.ap, Common.subst, Common.◌∙◌, Common.arith, Common.inl, Common.inr, Common.codes, Common.decimal, Common.Ok, lemmas.Bool.cases_order, lemmas.Fmt.decimal_injective, lemmas.List.append_cancel_left}
 use Rattle.nmgc_world_spec.specs.declared.command.Command.{Command}
-use Rattle.nmgc_script.specs.{declared.fault.Cause.Cause, declared.script.Config.Config, declared.script.Script.Script, declared.version.Version.Version, laws.Versions.IsUsable, laws.Versions.usable_version, Limits.FitsConfig, Limits.IsVersion, Spelling.spaced, Spelling.heap_words, Spelling.version_words, Spelling.Spells, Text.words_of, Text.kept_lines, Text.end_of, Faults.order_of, Faults.IsFirstFault, Faults.begun_with, Faults.IsFaultInRest, Faults.IsFaultFromHeap, Faults.IsFaultOfText, Reading.heap_words_at, Reading.section_at, Reading.entry_at, Reading.begun_after, Reading.at_line, Reading.rest_at, Reading.programs_at, Reading.threads_at, Reading.version_at, Reading.heap_at, Reading.script_at, laws.Lines.spaced-words_of, laws.Lines.words_of-line, laws.Lines.heap_line_words, laws.Lines.first_line, laws.Lines.second_line}
+use Rattle.nmgc_script.specs.{declared.fault.Cause.Cause, declared.script.Config.Config, declared.script.Script.Script, declared.version.Version.Version, laws.Versions.IsUsable, laws.Versions.usable_version, laws.Versions.version_is, Limits.FitsConfig, Limits.IsVersion, Limits.version_of, Spelling.spaced, Spelling.heap_words, Spelling.version_words, Spelling.Spells, Text.words_of, Text.kept_lines, Text.end_of, Faults.order_of, Faults.IsFirstFault, Faults.begun_with, Faults.IsFaultInRest, Faults.IsFaultFromHeap, Faults.IsFaultOfText, Reading.heap_words_at, Reading.section_at, Reading.entry_at, Reading.begun_after, Reading.at_line, Reading.rest_at, Reading.programs_at, Reading.threads_at, Reading.version_at, Reading.heap_at, Reading.script_at, laws.Lines.spaced-words_of, laws.Lines.words_of-line, laws.Lines.heap_line_words}
 use Rattle.nmgc_script.specs.declared.fault.Cause.TheVariants as cause
 use Rattle.nmgc_script.proofs.{WordLaws.bind_ok, WordLaws.ok_is, ConfigLaws.heap_takes, ConfigLaws.heap_again, SectionLaws.at_line_ok, SectionLaws.section_takes, ScriptLaws.script_again, ScriptLaws.version_found, FaultLaws.entry_good, FaultLaws.section_faultless, FaultLaws.some_after}
 
@@ -52,13 +52,16 @@ one_rest ver usable h n end (line ∷ lines) a c b d (inr p) (inl q) = absurd (p
 one_rest ver usable h n end (line ∷ lines) a c b d (inr p) (inr q) = one_rest ver usable h (begun_with n (words_of line.1)) end lines a c b d p.1 q.1
 
 -- a heap line has one configuration
-one_config : (line : List ℕ) (g h : Config) → FitsConfig g → FitsConfig h → line ≡ spaced (heap_words g) → line ≡ spaced (heap_words h) → g ≡ h
-one_config line g h fg fh eg eh =
-    let rg : heap_words_at (words_of line) ≡ Ok g = ap (λ (l : List ℕ). heap_words_at (words_of l)) eg ∙
-    ap heap_words_at (words_of-line (heap_words g) (heap_line_words g fg)) ∙ heap_again g fg in
-    let rh : heap_words_at (words_of line) ≡ Ok h = ap (λ (l : List ℕ). heap_words_at (words_of l)) eh ∙
-    ap heap_words_at (words_of-line (heap_words h) (heap_line_words h fh)) ∙ heap_again h fh in
-    ok_is {E = Cause} g h (sym rg ∙ rh)
+one_config : (ver : Version) (usable : IsUsable ver) (line : List ℕ) (g h : Config) → FitsConfig ver.segments g → FitsConfig ver.segments h →
+    line ≡ spaced (heap_words g) → line ≡ spaced (heap_words h) → g ≡ h
+one_config ver usable line g h fg fh eg eh = ok_is {E = Cause} g h (sym (reads g fg eg) ∙ reads h fh eh)
+  where
+    few : ver.segments < 2 ^ 64
+    few = omega (arith, usable.segments)
+
+    reads : (c : Config) → FitsConfig ver.segments c → line ≡ spaced (heap_words c) → heap_words_at ver (words_of line) ≡ Ok c
+    reads c fits is = ap (λ (l : List ℕ). heap_words_at ver (words_of l)) is ∙
+        ap (heap_words_at ver) (words_of-line (heap_words c) (heap_line_words ver.segments few c fits)) ∙ heap_again ver few c fits
 
 one_heap : (ver : Version) (usable : IsUsable ver) (end : ℕ) (lines : List (ℕ × List ℕ)) (a : ℕ) (c : Cause) (b : ℕ) (d : Cause) →
     IsFaultFromHeap ver end lines a c → IsFaultFromHeap ver end lines b d → Same a c b d
@@ -67,22 +70,18 @@ one_heap ver usable end (line ∷ lines) a c b d (inl p) (inl q) = (p.0 ∙ sym 
 one_heap ver usable end (line ∷ lines) a c b d (inl p) (inr q) = absurd (p.2 q.0 q.1 q.2)
 one_heap ver usable end (line ∷ lines) a c b d (inr p) (inl q) = absurd (q.2 p.0 p.1 p.2)
 one_heap ver usable end (line ∷ lines) a c b d (inr p) (inr q) =
-    let same : p.0 ≡ q.0 = one_config line.1 p.0 q.0 p.1 q.1 p.2 q.2 in
+    let same : p.0 ≡ q.0 = one_config ver usable line.1 p.0 q.0 p.1 q.1 p.2 q.2 in
     one_rest ver usable q.0 0 end lines a c b d (subst (λ (k : Config). IsFaultInRest ver k 0 end lines a c) same p.3) q.3
-
-abbrev text_of : Version → List ℕ
-text_of v = spaced (version_words v.number)
-
-numbers_differ : codes "nmgc 1" ≡ codes "nmgc 2" → ⊥
-numbers_differ e = let last : 49 ≡ 50 = ap (λ (l : List ℕ). get_or l 5 0) e in omega (arith, last)
 
 -- a line has one version
 one_version : (line : List ℕ) (v w : Version) → IsVersion v → IsVersion w → line ≡ spaced (version_words v.number) →
     line ≡ spaced (version_words w.number) → v ≡ w
-one_version line v w (inl a) (inl b) e f = a ∙ sym b
-one_version line v w (inr a) (inr b) e f = a ∙ sym b
-one_version line v w (inl a) (inr b) e f = absurd (numbers_differ (sym (e ∙ ap text_of a ∙ first_line) ∙ f ∙ ap text_of b ∙ second_line))
-one_version line v w (inr a) (inl b) e f = absurd (numbers_differ (sym (f ∙ ap text_of b ∙ first_line) ∙ e ∙ ap text_of a ∙ second_line))
+one_version line v w is also e f =
+    let low = usable_version v is in
+    let small = usable_version w also in
+    let same : v.number ≡ w.number = decimal_injective v.number w.number (omega (arith, low.number)) (omega (arith, small.number))
+    (append_cancel_left (codes "nmgc ") (decimal v.number) (decimal w.number) (sym e ∙ f)) in
+    sym (version_is v is) ∙ ap version_of same ∙ version_is w also
 
 pub one_fault : (end : ℕ) (lines : List (ℕ × List ℕ)) (a : ℕ) (c : Cause) (b : ℕ) (d : Cause) → IsFaultOfText end lines a c → IsFaultOfText end lines b d → Same a c b d
 one_fault end [] a c b d p q = (p.0 ∙ sym q.0, p.1 ∙ sym q.1)
@@ -126,20 +125,20 @@ threads_good ver usable h end (line ∷ lines) threads a c good t =
     ]
 
 heap_good : (ver : Version) (usable : IsUsable ver) (end : ℕ) (lines : List (ℕ × List ℕ)) (h : Config ×
-    List (ℕ × List ℕ)) (threads : List (List Command)) (a : ℕ) (c : Cause) → heap_at end lines ≡ Ok h → threads_at ver end h.0 h.1 ≡ Ok threads →
+    List (ℕ × List ℕ)) (threads : List (List Command)) (a : ℕ) (c : Cause) → heap_at ver end lines ≡ Ok h → threads_at ver end h.0 h.1 ≡ Ok threads →
     IsFaultFromHeap ver end lines a c → ⊥
 unfolding heap_at
 heap_good ver usable end [] h threads a c good more t = absurd cc
 heap_good ver usable end (line ∷ lines) h threads a c good more t =
-    let b = bind_ok (at_line line.0 (heap_words_at (words_of line.1))) (λ config. Ok (config, lines)) h good in
-    let g = heap_takes (words_of line.1) b.0 (at_line_ok line.0 (heap_words_at (words_of line.1)) b.0 b.1) in
+    let b = bind_ok (at_line line.0 (heap_words_at ver (words_of line.1))) (λ config. Ok (config, lines)) h good in
+    let g = heap_takes ver (omega (arith, usable.segments)) (words_of line.1) b.0 (at_line_ok line.0 (heap_words_at ver (words_of line.1)) b.0 b.1) in
     let is : line.1 ≡ spaced (heap_words b.0) = sym (spaced-words_of line.1) ∙ ap spaced g.0 in
     let parts : (b.0, lines) ≡ h = ok_is {E = ℕ × Cause} (b.0, lines) h b.2 in
     let later : threads_at ver end b.0 lines ≡ Ok threads = rw (← parts) at more in
     elim t [
       | inl q ↦ q.2 b.0 g.1 is
       | inr q ↦ threads_good ver usable b.0 end lines threads a c later (subst (λ (k : Config).
-          IsFaultInRest ver k 0 end lines a c) (one_config line.1 q.0 b.0 q.1 g.1 q.2 is) q.3)
+          IsFaultInRest ver k 0 end lines a c) (one_config ver usable line.1 q.0 b.0 q.1 g.1 q.2 is) q.3)
     ]
 
 -- a text without lines names no version
@@ -148,7 +147,7 @@ unfolding version_at
 no_version end p good = absurd cc
 
 version_good : (end : ℕ) (lines : List (ℕ × List ℕ)) (p : Version × List (ℕ × List ℕ)) (h : Config ×
-    List (ℕ × List ℕ)) (threads : List (List Command)) (a : ℕ) (c : Cause) → version_at end lines ≡ Ok p → heap_at end p.1 ≡ Ok h →
+    List (ℕ × List ℕ)) (threads : List (List Command)) (a : ℕ) (c : Cause) → version_at end lines ≡ Ok p → heap_at p.0 end p.1 ≡ Ok h →
     threads_at p.0 end h.0 h.1 ≡ Ok threads → IsFaultOfText end lines a c → ⊥
 version_good end [] p h threads a c good heap more t = no_version end p good
 version_good end (line ∷ lines) p h threads a c good heap more t =
@@ -164,7 +163,7 @@ pub none_known : (end : ℕ) (lines : List (ℕ × List ℕ)) (s : Script) (a : 
 unfolding script_at
 none_known end lines s a c good t =
     let b = bind_ok (version_at end lines) _ s good in
-    let h = bind_ok (heap_at end b.0.1) _ s b.2 in
+    let h = bind_ok (heap_at b.0.0 end b.0.1) _ s b.2 in
     let p = bind_ok (threads_at b.0.0 end h.0.0 h.0.1) _ s h.2 in
     version_good end lines b.0 h.0 p.0 a c b.1 h.1 p.1 t
 

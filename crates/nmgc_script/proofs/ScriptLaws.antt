@@ -1,9 +1,8 @@
 -- A script is read exactly from its lines.
-use Rattle.std.proofs.{Common.◌≡◌, Common.◌≤◌, Common.◌+◌, Common.ℕ, Common.List, Common.[], Common.◌∷◌, Common.◌++◌, Common.map, Common.length, Common.refl, Common.sym, Common.ap, Common.subst, Common.◌∙◌, Common.arith, Common.inl, Common.inr, Common.Bool, Common.true, Common.false, Common.cond, Common.suc, Common.Result, Common.Ok, Common.Err, Common.IfOk, Common.MatchResult, Common.codes, lemmas.Bool.Decides.eqb_tells, lemmas.List.length-map, lemmas.List.length-append, lemmas.List.Sums.sum_by-cons, lemmas.List.Elements.All-from_recursion, lemmas.List.Elements.All-weaker, lemmas.List.Elements.recursion_from_All, lemmas.Slice.Eq.bytes_eq-Decides}
+use Rattle.std.proofs.{Common.◌≡◌, Common.◌≤◌, Common.◌^◌, Common.◌<◌, Common.◌+◌, Common.ℕ, Common.List, Common.[], Common.◌∷◌, Common.◌++◌, Common.map, Common.length, Common.refl, Common.sym, Common.ap, Common.subst, Common.◌∙◌, Common.arith, Common.inl, Common.inr, Common.Bool, Common.true, Common.false, Common.cond, Common.eqb, Common.suc, Common.Result, Common.Ok, Common.Err, Common.IfOk, Common.MatchResult, Common.codes, lemmas.Bool.Decides.eqb_tells, lemmas.List.length-map, lemmas.List.length-append, lemmas.List.Sums.sum_by-cons, lemmas.List.Elements.All-from_recursion, lemmas.List.Elements.All-weaker, lemmas.List.Elements.recursion_from_All, lemmas.Slice.Eq.bytes_eq-Decides}
 use Rattle.std.specs.{List.AllByRecursion, List.All, List.sum_by, Str.bytes_eq}
-use Rattle.nmgc_limits.specs.Limits.{most_heap_words}
 use Rattle.nmgc_world_spec.specs.{declared.command.Command.Command, Command.Fits, Command.HasRegistersBelow}
-use Rattle.nmgc_script.specs.{declared.fault.Cause.Cause, declared.fault.ScriptFault.ScriptFault, declared.script.Config.Config, declared.script.Script.Script, declared.version.Version.Version, laws.Versions.IsUsable, laws.Versions.usable_version, laws.Versions.usable_number, laws.Versions.version_is, Limits.FitsConfig, Limits.FitsScript, Limits.IsVersion, Limits.total_words, Limits.version_1, Limits.version_2, Limits.version_of, Text.lines_of, Text.words_of, Text.kept_from, Text.kept_lines, Text.end_of, Text.onto_first, Text.is_passed, Spelling.spaced, Spelling.heap_words, Spelling.section_words, Spelling.version_words, Spelling.command_words, Spelling.program_lines, Spelling.section_lines, Spelling.script_lines, Spelling.Spells, Reading.heap_words_at, Reading.section_at, Reading.rest_at, Reading.programs_at, Reading.threads_at, Reading.version_at, Reading.heap_at, Reading.script_at, Reading.at_line, Reading.GivesAt, laws.Lines.spaced-words_of, laws.Lines.words_of-line, laws.Lines.heap_line_words, laws.Lines.section_line_words, laws.Lines.first_line, laws.Lines.second_line}
+use Rattle.nmgc_script.specs.{declared.fault.Cause.Cause, declared.fault.ScriptFault.ScriptFault, declared.script.Config.Config, declared.script.Script.Script, declared.version.Version.Version, laws.Versions.IsUsable, laws.Versions.usable_version, laws.Versions.usable_number, laws.Versions.version_is, laws.Versions.numbered, Limits.FitsConfig, Limits.FitsScript, Limits.IsVersion, Limits.total_words, Limits.version_1, Limits.version_2, Limits.version_3, Limits.version_of, Text.lines_of, Text.words_of, Text.kept_from, Text.kept_lines, Text.end_of, Text.onto_first, Text.is_passed, Spelling.spaced, Spelling.heap_words, Spelling.section_words, Spelling.version_words, Spelling.command_words, Spelling.program_lines, Spelling.section_lines, Spelling.script_lines, Spelling.Spells, Reading.heap_words_at, Reading.section_at, Reading.rest_at, Reading.programs_at, Reading.threads_at, Reading.version_at, Reading.heap_at, Reading.script_at, Reading.at_line, Reading.GivesAt, laws.Lines.spaced-words_of, laws.Lines.words_of-line, laws.Lines.heap_line_words, laws.Lines.section_line_words, laws.Lines.first_line, laws.Lines.second_line, laws.Lines.third_line}
 use Rattle.nmgc_script.specs.declared.fault.Cause.TheVariants as cause
 use Rattle.nmgc_script.specs.declared.fault.ScriptFault.TheVariants as script_fault
 use Rattle.nmgc_script.specs.declared.sections.Entry.TheVariants as entry
@@ -31,10 +30,6 @@ both_to {X} P Q xss h k = each xss (recursion_from_All (λ xs. All P xs) xss h) 
     each [] h k = tt
     each (xs ∷ xss) h k = (both xs (recursion_from_All P xs h.0) (recursion_from_All Q xs k.0), each xss h.1 k.1)
 
--- the script with this version
-abbrev numbered : ℕ → Script → Script
-numbered n s = record { version = n; config = s.config; threads = s.threads }
-
 -- a text without lines names no version
 nothing : (end : ℕ) (p : Version × List (ℕ × List ℕ)) → version_at end [] ≡ Ok p → ⊥
 unfolding version_at
@@ -48,14 +43,20 @@ version_found end line lines p e =
     elim (chosen (bytes_eq line.1 (codes "nmgc 1")) (Ok (
       version_1,
       lines,
-    )) (cond (bytes_eq line.1 (codes "nmgc 2")) (Ok (version_2, lines)) (Err (line.0, cause.Version))) (Ok p) e) [
+    )) (cond (bytes_eq line.1 (codes "nmgc 2")) (Ok (version_2, lines)) (cond (bytes_eq line.1 (codes "nmgc 3")) (Ok (version_3, lines)) (Err (line.0, cause.Version)))) (Ok p) e) [
       | inl q ↦
           let here : line.1 ≡ codes "nmgc 1" = (bytes_eq-Decides line.1 (codes "nmgc 1")).0 q.0 in
           subst Found (ok_is {E = ℕ × Cause} (version_1, lines) p q.1) (inl refl, here ∙ sym first_line, refl)
       | inr q ↦
-          let g = guard_ok (bytes_eq line.1 (codes "nmgc 2")) (line.0, cause.Version) (version_2, lines) p q.1 in
-          let here : line.1 ≡ codes "nmgc 2" = (bytes_eq-Decides line.1 (codes "nmgc 2")).0 g.0 in
-          subst Found g.1 (inr refl, here ∙ sym second_line, refl)
+          elim (chosen (bytes_eq line.1 (codes "nmgc 2")) (Ok (version_2, lines)) (cond (bytes_eq line.1 (codes "nmgc 3")) (Ok (version_3, lines)) (Err (line.0, cause.Version))) (Ok p) q.1) [
+            | inl r ↦
+                let here : line.1 ≡ codes "nmgc 2" = (bytes_eq-Decides line.1 (codes "nmgc 2")).0 r.0 in
+                subst Found (ok_is {E = ℕ × Cause} (version_2, lines) p r.1) (inr (inl refl), here ∙ sym second_line, refl)
+            | inr r ↦
+                let g = guard_ok (bytes_eq line.1 (codes "nmgc 3")) (line.0, cause.Version) (version_3, lines) p r.1 in
+                let here : line.1 ≡ codes "nmgc 3" = (bytes_eq-Decides line.1 (codes "nmgc 3")).0 g.0 in
+                subst Found g.1 (inr (inr refl), here ∙ sym third_line, refl)
+          ]
     ]
   where
     Found : Version × List (ℕ × List ℕ) → Type 0
@@ -77,29 +78,38 @@ version_again end line lines n is e = elim (eqb_tells n 1) [
       let here : line.1 ≡ codes "nmgc 1" = e ∙ ap (λ (k : ℕ). spaced (version_words k)) p.1 ∙ first_line in
       rw (p.0, (bytes_eq-Decides line.1 (codes "nmgc 1")).1 here) refl
   | inr p ↦
-      let two : n ≡ 2 = is ∙ ap (λ (b : Bool). (cond b version_1 version_2).number) p.0 in
-      let here : line.1 ≡ codes "nmgc 2" = e ∙ ap (λ (k : ℕ). spaced (version_words k)) two ∙ second_line in
-      let other : bytes_eq line.1 (codes "nmgc 1") ≡ false = ap (λ (l : List ℕ). bytes_eq l (codes "nmgc 1")) here in
-      rw (p.0, other, (bytes_eq-Decides line.1 (codes "nmgc 2")).1 here) refl
+      elim (eqb_tells n 2) [
+        | inl q ↦
+            let here : line.1 ≡ codes "nmgc 2" = e ∙ ap (λ (k : ℕ). spaced (version_words k)) q.1 ∙ second_line in
+            let other : bytes_eq line.1 (codes "nmgc 1") ≡ false = ap (λ (l : List ℕ). bytes_eq l (codes "nmgc 1")) here in
+            rw (p.0, q.0, other, (bytes_eq-Decides line.1 (codes "nmgc 2")).1 here) refl
+        | inr q ↦
+            let three : n ≡ 3 = is ∙ ap (λ (b : Bool). (cond b version_1 (cond (eqb n 2) version_2 version_3)).number) p.0
+            ∙ ap (λ (b : Bool). (cond b version_2 version_3).number) q.0 in
+            let here : line.1 ≡ codes "nmgc 3" = e ∙ ap (λ (k : ℕ). spaced (version_words k)) three ∙ third_line in
+            let first : bytes_eq line.1 (codes "nmgc 1") ≡ false = ap (λ (l : List ℕ). bytes_eq l (codes "nmgc 1")) here in
+            let second : bytes_eq line.1 (codes "nmgc 2") ≡ false = ap (λ (l : List ℕ). bytes_eq l (codes "nmgc 2")) here in
+            rw (p.0, q.0, first, second, (bytes_eq-Decides line.1 (codes "nmgc 3")).1 here) refl
+      ]
 ]
 
-heap_at_takes : (end : ℕ) (lines : List (ℕ × List ℕ)) (p : Config × List (ℕ × List ℕ)) → heap_at end lines ≡ Ok p →
-    (map text lines ≡ spaced (heap_words p.0) ∷ map text p.1) × FitsConfig p.0
+heap_at_takes : (ver : Version) (usable : IsUsable ver) (end : ℕ) (lines : List (ℕ × List ℕ)) (p : Config × List (ℕ × List ℕ)) →
+    heap_at ver end lines ≡ Ok p → (map text lines ≡ spaced (heap_words p.0) ∷ map text p.1) × FitsConfig ver.segments p.0
 unfolding heap_at
-heap_at_takes end [] p e = absurd cc
-heap_at_takes end (line ∷ lines) p e =
-    let b = bind_ok (at_line line.0 (heap_words_at (words_of line.1))) (λ config. Ok (config, lines)) p e in
-    let t = heap_takes (words_of line.1) b.0 (at_line_ok line.0 (heap_words_at (words_of line.1)) b.0 b.1) in
+heap_at_takes ver usable end [] p e = absurd cc
+heap_at_takes ver usable end (line ∷ lines) p e =
+    let b = bind_ok (at_line line.0 (heap_words_at ver (words_of line.1))) (λ config. Ok (config, lines)) p e in
+    let t = heap_takes ver (omega (arith, usable.segments)) (words_of line.1) b.0 (at_line_ok line.0 (heap_words_at ver (words_of line.1)) b.0 b.1) in
     let here : line.1 ≡ spaced (heap_words b.0) = sym (spaced-words_of line.1) ∙ ap spaced t.0 in
     subst (λ (q : Config × List (ℕ × List ℕ)). (map text (line ∷ lines) ≡ spaced (heap_words q.0) ∷ map text q.1) ×
-    FitsConfig q.0) (ok_is {E = ℕ × Cause} (b.0, lines) p b.2) (ap (λ (l : List ℕ). l ∷ map text lines) here, t.1)
+    FitsConfig ver.segments q.0) (ok_is {E = ℕ × Cause} (b.0, lines) p b.2) (ap (λ (l : List ℕ). l ∷ map text lines) here, t.1)
 
 -- the lines spell the programs, which are within the limits
 record ThreadsSpelled (ver : Version) (h : Config) (lines : List (ℕ × List ℕ)) (threads : List (List Command)) : Type 0 where
   lines_are : map text lines ≡ section_lines 0 threads
   some : 1 ≤ length threads
   few : length threads ≤ ver.threads
-  total : total_words h (length threads) ≤ most_heap_words
+  total : total_words h (length threads) ≤ ver.heap_words
   fit : AllByRecursion (AllByRecursion (Fit ver h.words)) threads
 
 threads_takes : (ver : Version) (usable : IsUsable ver) (end : ℕ) (h : Config) (lines : List (ℕ × List ℕ)) (threads : List (List Command)) →
@@ -117,7 +127,7 @@ threads_takes ver usable end h (line ∷ lines) threads e =
       lines_are = cc (here, r.lines_are);
       some = omega (arith, more);
       few = omega (arith, r.few, more);
-      total = subst (λ (k : ℕ). total_words h k ≤ most_heap_words) more r.total;
+      total = subst (λ (k : ℕ). total_words h k ≤ ver.heap_words) more r.total;
       fit = (r.first, r.others);
     } in
     subst (ThreadsSpelled ver h (line ∷ lines)) (ok_is {E = ℕ × Cause} (p.0.0 ∷ p.0.1) threads p.2) all
@@ -126,19 +136,20 @@ script_takes : (end : ℕ) (lines : List (ℕ × List ℕ)) (s : Script) → scr
 unfolding script_at
 script_takes end lines s e =
     let b = bind_ok (version_at end lines) _ s e in
-    let h = bind_ok (heap_at end b.0.1) _ s b.2 in
+    let h = bind_ok (heap_at b.0.0 end b.0.1) _ s b.2 in
     let t = bind_ok (threads_at b.0.0 end h.0.0 h.0.1) _ s h.2 in
     let first = version_takes end lines b.0 b.1 in
-    let second = heap_at_takes end b.0.1 h.0 h.1 in
-    let third = threads_takes b.0.0 (usable_version b.0.0 first.1) end h.0.0 h.0.1 t.0 t.1 in
+    let usable = usable_version b.0.0 first.1 in
+    let second = heap_at_takes b.0.0 usable end b.0.1 h.0 h.1 in
+    let third = threads_takes b.0.0 usable end h.0.0 h.0.1 t.0 t.1 in
     let same : b.0.0 ≡ version_of b.0.0.number = sym (version_is b.0.0 first.1) in
     let made : Script = record { version = b.0.0.number; config = h.0.0; threads = t.0 } in
     let fits : FitsScript made = record {
       version = ap (λ (v : Version). v.number) same;
-      config = second.1;
+      config = subst (λ (v : Version). FitsConfig v.segments h.0.0) same second.1;
       some_thread = third.some;
       threads = subst (λ (v : Version). length t.0 ≤ v.threads) same third.few;
-      total = third.total;
+      total = subst (λ (v : Version). total_words h.0.0 (length t.0) ≤ v.heap_words) same third.total;
       commands = all_of (Fit b.0.0 h.0.0.words) (Fits h.0.0.words) (λ c fit. fit.0) t.0 third.fit;
       registers = subst (λ (v : Version).
           All (λ program. All (HasRegistersBelow v.registers) program) t.0) same
@@ -147,7 +158,7 @@ script_takes end lines s e =
     subst (λ (k : Script). (map text lines ≡ script_lines k) × FitsScript k) (ok_is {E = ℕ × Cause} made s t.2) (cc (first.0, second.0, third.lines_are), fits)
 
 threads_again : (ver : Version) (usable : IsUsable ver) (end : ℕ) (h : Config) (lines : List (ℕ × List ℕ)) (threads : List (List Command)) →
-    1 ≤ length threads → length threads ≤ ver.threads → total_words h (length threads) ≤ most_heap_words →
+    1 ≤ length threads → length threads ≤ ver.threads → total_words h (length threads) ≤ ver.heap_words →
     AllByRecursion (AllByRecursion (Fit ver h.words)) threads → map text lines ≡ section_lines 0 threads → threads_at ver end h lines ≡ Ok threads
 unfolding threads_at programs_at
 threads_again ver usable end h lines [] some few total fit e = absurd (omega arith)
@@ -156,7 +167,7 @@ threads_again ver usable end h (line ∷ lines) (program ∷ programs) some few 
     let more : 1 + length programs ≡ length (program ∷ programs) = omega arith in
     let here : line.1 ≡ spaced (section_words 0) = cc in
     let words : words_of line.1 ≡ section_words 0 = ap words_of here ∙ words_of-line (section_words 0) (section_line_words 0 (omega arith)) in
-    let room : total_words h 1 ≤ most_heap_words = fewer h 1 (length (program ∷ programs)) most_heap_words (omega (arith, more)) total in
+    let room : total_words h 1 ≤ ver.heap_words = fewer h 1 (length (program ∷ programs)) ver.heap_words (omega (arith, more)) total in
     let read : section_at ver h 0 (words_of line.1) ≡ Ok entry.Section = ap (section_at ver h 0) words ∙
     section_again ver usable h 0 (omega (arith, usable.some_thread)) room in
     let after : map text lines ≡ program_lines program ++ section_lines 1 programs = cc in
@@ -166,7 +177,7 @@ threads_again ver usable end h (line ∷ lines) (program ∷ programs) some few 
         arith,
         few,
         more,
-      )) (subst (λ (k : ℕ). total_words h k ≤ most_heap_words) (sym more) total) after,
+      )) (subst (λ (k : ℕ). total_words h k ≤ ver.heap_words) (sym more) total) after,
     ) refl
 
 pub script_again : (end : ℕ) (lines : List (ℕ × List ℕ)) (s : Script) → FitsScript s → map text lines ≡ script_lines s → script_at end lines ≡ Ok s
@@ -175,15 +186,17 @@ script_again end [] s fits e = absurd cc
 script_again end (first ∷ []) s fits e = absurd cc
 script_again end (first ∷ second ∷ lines) s fits e =
     let ver : Version = version_of s.version in
+    let usable : IsUsable ver = usable_number s.version in
+    let small : ver.segments < 2 ^ 64 = omega (arith, usable.segments) in
     let is_first : first.1 ≡ spaced (version_words s.version) = cc in
     let is_second : second.1 ≡ spaced (heap_words s.config) = cc in
     let after : map text lines ≡ section_lines 0 s.threads = cc in
-    let words : words_of second.1 ≡ heap_words s.config = ap words_of is_second ∙ words_of-line (heap_words s.config) (heap_line_words s.config fits.config) in
+    let words : words_of second.1 ≡ heap_words s.config = ap words_of is_second ∙ words_of-line (heap_words s.config) (heap_line_words ver.segments small s.config fits.config) in
     let version : version_at end (first ∷ second ∷ lines) ≡ Ok (ver, second ∷ lines) =
     version_again end first (second ∷ lines) s.version fits.version is_first in
-    let config : heap_words_at (words_of second.1) ≡ Ok s.config = ap heap_words_at words ∙ heap_again s.config fits.config in
+    let config : heap_words_at ver (words_of second.1) ≡ Ok s.config = ap (heap_words_at ver) words ∙ heap_again ver small s.config fits.config in
     let threads : threads_at ver end s.config lines ≡ Ok s.threads =
-    threads_again ver (usable_number s.version) end s.config lines s.threads fits.some_thread fits.threads fits.total
+    threads_again ver usable end s.config lines s.threads fits.some_thread fits.threads fits.total
     (both_to (Fits s.config.words) (HasRegistersBelow ver.registers) s.threads fits.commands fits.registers) after in
     let read : script_at end (first ∷ second ∷ lines) ≡ Ok (numbered ver.number s) = rw (version, config, threads) refl in
     read ∙ ap (λ (n : ℕ). Ok (numbered n s)) (sym fits.version)

@@ -1,7 +1,6 @@
 -- Sections are read exactly from their lines.
 use Rattle.std.proofs.{Common.◌≡◌, Common.◌≤◌, Common.◌<◌, Common.◌-◌, Common.◌+◌, Common.ℕ, Common.List, Common.[], Common.◌∷◌, Common.◌++◌, Common.map, Common.length, Common.refl, Common.sym, Common.ap, Common.subst, Common.◌∙◌, Common.arith, Common.inl, Common.inr, Common.false, Common.codes, Common.eqb, Common.leb, Common.Result, Common.Ok, Common.Err, lemmas.Bool.le-leb, lemmas.Bool.leb-true, lemmas.Bool.eq-eqb, lemmas.Bool.eqb-true, Math.Nat.mul-le-mul_right, lemmas.Slice.Eq.bytes_eq-Decides}
 use Rattle.std.specs.{List.AllByRecursion, Str.bytes_eq}
-use Rattle.nmgc_limits.specs.Limits.{most_heap_words}
 use Rattle.nmgc_world_spec.specs.declared.command.Command.{Command}
 use Rattle.nmgc_script.specs.{declared.fault.Cause.Cause, declared.script.Config.Config, declared.verbs.Verb.Verb, declared.sections.Entry.Entry, declared.version.Version.Version, laws.Versions.IsUsable, Limits.total_words, Text.words_of, Spelling.spaced, Spelling.verb_name, Spelling.command_words, Spelling.section_words, Spelling.program_lines, Spelling.section_lines, Reading.◌>>=◌, Reading.number_at, Reading.or_cause, Reading.thread_at, Reading.section_at, Reading.is_section, Reading.entry_at, Reading.command_at, Reading.at_line, Reading.with_entry, Reading.begun_after, Reading.rest_at, laws.Lines.spaced-words_of, laws.Lines.words_of-line, laws.Lines.command_line, laws.Lines.section_line_words}
 use Rattle.nmgc_script.specs.declared.fault.Cause.TheVariants as cause
@@ -43,7 +42,7 @@ thread_reads ver usable = record { takes = takes; again = again }
 
 -- the section line of thread n, for which the heap has room
 abbrev pub Begins : Version → Config → ℕ → List (List ℕ) → Type 0
-Begins ver h n words = (words ≡ section_words n) × (n < ver.threads) × (total_words h (n + 1) ≤ most_heap_words)
+Begins ver h n words = (words ≡ section_words n) × (n < ver.threads) × (total_words h (n + 1) ≤ ver.heap_words)
 
 pub section_takes : (ver : Version) (usable : IsUsable ver) (h : Config) (n : ℕ) (words : List (List ℕ)) (e : Entry) →
     section_at ver h n words ≡ Ok e → Begins ver h n words × (e ≡ entry.Section)
@@ -53,22 +52,22 @@ section_takes ver usable h n words e read =
     let t = (thread_reads ver usable).takes words b.0 b.1 in
     elim (chosen (eqb b.0 n) _ (Err cause.Thread) (Ok e) b.2) [
       | inl p ↦
-          let g = guard_ok (leb (total_words h (n + 1)) most_heap_words) cause.Total entry.Section e p.1 in
+          let g = guard_ok (leb (total_words h (n + 1)) ver.heap_words) cause.Total entry.Section e p.1 in
           let same : b.0 ≡ n = eqb-true b.0 n p.0 in (
             (
               subst (λ (k : ℕ). words ≡ section_words k) same t.0,
               subst (λ (k : ℕ). k < ver.threads) same t.1,
-              leb-true (total_words h (n + 1)) most_heap_words g.0,
+              leb-true (total_words h (n + 1)) ver.heap_words g.0,
             ),
             sym g.1,
           )
       | inr p ↦ absurd (let never : Err cause.Thread ≡ Ok e = p.1 in cc)
     ]
 
-pub section_again : (ver : Version) (usable : IsUsable ver) (h : Config) (n : ℕ) → n < ver.threads → total_words h (n + 1) ≤ most_heap_words →
+pub section_again : (ver : Version) (usable : IsUsable ver) (h : Config) (n : ℕ) → n < ver.threads → total_words h (n + 1) ≤ ver.heap_words →
     section_at ver h n (section_words n) ≡ Ok entry.Section
 unfolding section_at
-section_again ver usable h n few total = rw ((thread_reads ver usable).again n few, eq-eqb n n refl, le-leb (total_words h (n + 1)) most_heap_words total) refl
+section_again ver usable h n few total = rw ((thread_reads ver usable).again n few, eq-eqb n n refl, le-leb (total_words h (n + 1)) ver.heap_words total) refl
 
 -- the tokens spell the entry
 abbrev EntrySpelled : Version → Config → ℕ → List (List ℕ) → Entry → Type 0
@@ -121,7 +120,7 @@ order_again : (ver : Version) (usable : IsUsable ver) (h : Config) (n : ℕ) (c 
 unfolding entry_at
 order_again ver usable h n c fits = rw (not_section ver usable h.words c fits, (command_reads ver usable h.words).again c fits) refl
 
-begin_again : (ver : Version) (usable : IsUsable ver) (h : Config) (n : ℕ) → n < ver.threads → total_words h (n + 1) ≤ most_heap_words →
+begin_again : (ver : Version) (usable : IsUsable ver) (h : Config) (n : ℕ) → n < ver.threads → total_words h (n + 1) ≤ ver.heap_words →
     entry_at ver h n (section_words n) ≡ Ok entry.Section
 unfolding entry_at
 begin_again ver usable h n few total = section_again ver usable h n few total
@@ -136,7 +135,7 @@ pub record RestSpelled (ver : Version) (h : Config) (n : ℕ) (lines : List (ℕ
   pub first : AllByRecursion (Fit ver h.words) p.0
   pub others : AllByRecursion (AllByRecursion (Fit ver h.words)) p.1
   pub few : n + length p.1 ≤ ver.threads
-  pub total : total_words h (n + length p.1) ≤ most_heap_words
+  pub total : total_words h (n + length p.1) ≤ ver.heap_words
 
 entry_more : (ver : Version) (usable : IsUsable ver) (h : Config) (n : ℕ) (line : ℕ ×
     List ℕ) (lines : List (ℕ × List ℕ)) (e : Entry) (p : List Command × List (List Command)) → EntrySpelled ver h n (words_of line.1) e →
@@ -149,7 +148,7 @@ entry_more ver usable h n line lines entry.Section p s r =
       first = tt;
       others = (r.first, r.others);
       few = omega (arith, r.few, more);
-      total = subst (λ (k : ℕ). total_words h k ≤ most_heap_words) more r.total;
+      total = subst (λ (k : ℕ). total_words h k ≤ ver.heap_words) more r.total;
     }
 entry_more ver usable h n line lines (entry.Order c) p s r =
     let here : line.1 ≡ spaced (command_words c) = sym (spaced-words_of line.1) ∙ ap spaced s.0 in
@@ -163,12 +162,12 @@ entry_more ver usable h n line lines (entry.Order c) p s r =
 
 -- after an entry there is still room
 room_after : (ver : Version) (usable : IsUsable ver) (h : Config) (n : ℕ) (words : List (List ℕ)) (e : Entry) → EntrySpelled ver h n words e →
-    n ≤ ver.threads → total_words h n ≤ most_heap_words → (begun_after e n ≤ ver.threads) × (total_words h (begun_after e n) ≤ most_heap_words)
+    n ≤ ver.threads → total_words h n ≤ ver.heap_words → (begun_after e n ≤ ver.threads) × (total_words h (begun_after e n) ≤ ver.heap_words)
 room_after ver usable h n words entry.Section s few total = (omega (arith, s.1), s.2)
 room_after ver usable h n words (entry.Order c) s few total = (few, total)
 
 pub rest_takes : (ver : Version) (usable : IsUsable ver) (h : Config) (n : ℕ) (lines : List (ℕ × List ℕ)) (p : List Command × List (List Command)) →
-    n ≤ ver.threads → total_words h n ≤ most_heap_words → rest_at ver h n lines ≡ Ok p → RestSpelled ver h n lines p
+    n ≤ ver.threads → total_words h n ≤ ver.heap_words → rest_at ver h n lines ≡ Ok p → RestSpelled ver h n lines p
 unfolding rest_at
 rest_takes ver usable h n [] p few total e =
     let none : RestSpelled ver h n [] ([], []) = record {
@@ -176,7 +175,7 @@ rest_takes ver usable h n [] p few total e =
       first = tt;
       others = tt;
       few = omega arith;
-      total = let same : n ≡ n + 0 = omega arith in subst (λ (k : ℕ). total_words h k ≤ most_heap_words) same total;
+      total = let same : n ≡ n + 0 = omega arith in subst (λ (k : ℕ). total_words h k ≤ ver.heap_words) same total;
     } in
     subst (RestSpelled ver h n []) (ok_is {E = ℕ × Cause} ([], []) p e) none
 rest_takes ver usable h n (line ∷ lines) p few total e =
@@ -193,7 +192,7 @@ fewer h n m limit le total = omega (arith, mul-le-mul_right h.nursery le)
 
 module _ (ver : Version) (usable : IsUsable ver) (h : Config) where
   pub rest_again : (n : ℕ) (lines : List (ℕ × List ℕ)) (cs : List Command) (ts : List (List Command)) → AllByRecursion (Fit ver h.words) cs →
-      AllByRecursion (AllByRecursion (Fit ver h.words)) ts → n + length ts ≤ ver.threads → total_words h (n + length ts) ≤ most_heap_words →
+      AllByRecursion (AllByRecursion (Fit ver h.words)) ts → n + length ts ≤ ver.threads → total_words h (n + length ts) ≤ ver.heap_words →
       map text lines ≡ program_lines cs ++ section_lines n ts → rest_at ver h n lines ≡ Ok (cs, ts)
   unfolding rest_at
   rest_again n [] [] [] fit fits few total e = refl
@@ -212,7 +211,7 @@ module _ (ver : Version) (usable : IsUsable ver) (h : Config) where
       let lt : n < ver.threads = omega (arith, few, more) in
       let words : words_of line.1 ≡ section_words n = ap words_of here ∙
       words_of-line (section_words n) (section_line_words n (omega (arith, lt, usable.threads))) in
-      let room : total_words h (n + 1) ≤ most_heap_words = fewer h (n + 1) (n + length (t ∷ ts)) most_heap_words (omega arith) total in
+      let room : total_words h (n + 1) ≤ ver.heap_words = fewer h (n + 1) (n + length (t ∷ ts)) ver.heap_words (omega arith) total in
       let read : entry_at ver h n (words_of line.1) ≡ Ok entry.Section = ap (entry_at ver h n) words ∙ begin_again ver usable h n lt room in
       let after : map text lines ≡ program_lines t ++ section_lines (n + 1) ts = cc in
       rw (
@@ -221,5 +220,5 @@ module _ (ver : Version) (usable : IsUsable ver) (h : Config) where
           arith,
           few,
           more,
-        )) (subst (λ (k : ℕ). total_words h k ≤ most_heap_words) (sym more) total) after,
+        )) (subst (λ (k : ℕ). total_words h k ≤ ver.heap_words) (sym more) total) after,
       ) refl

@@ -1,9 +1,8 @@
--- The words of a heap are few.
-use Rattle.nmgc_script.proofs.Vocabulary.{◌≤◌, ◌*◌, ℕ, mul-le-mul, Config, FitsConfig}
+-- The total of a heap doesn't overflow.
+use Rattle.nmgc_script.proofs.Vocabulary.{ℕ, ◌*◌, ◌≤◌, mul-le-mul, Config, most_segment_words}
 
-pub segments_small : (c : Config) → FitsConfig c → c.segments * c.words ≤ 268435456
-segments_small c h = mul-le-mul h.segments h.words.most
+pub segments_small : (c : Config) → c.segments ≤ 4294967295 → c.words ≤ most_segment_words → c.segments * c.words ≤ 17592186040320
+segments_small c few short = mul-le-mul few short
 
--- this holds for every number of threads that a byte can represent
-pub nurseries_small : (c : Config) (n : ℕ) → FitsConfig c → n ≤ 255 → n * c.nursery ≤ 1069547520
-nurseries_small c n h le = mul-le-mul le h.nursery
+pub nurseries_small : (c : Config) (n : ℕ) → c.nursery ≤ 4294967295 → n ≤ 255 → n * c.nursery ≤ 1095216660225
+nurseries_small c n short few = mul-le-mul few short

@@ -1,7 +1,6 @@
 -- Which fault a line has, cause by cause, and which fault is reported.
 use Rattle.std.specs.Prelude.{◌≡◌, ◌≢◌, ◌<◌, ◌+◌, ℕ, List, [], ◌∷◌, ◌⊎◌, length, codes, if◌then◌else◌}
 use Rattle.std.specs.Str.{bytes_eq}
-use Rattle.nmgc_limits.specs.Limits.{most_heap_words}
 use Rattle.nmgc_world_spec.specs.{declared.command.Command.Command, Command.HasRegistersBelow, Command.HasNumbers, Command.words_made}
 use Rattle.nmgc_script.specs.{declared.fault.Cause.Cause, declared.fault.ScriptFault.ScriptFault, declared.script.Config.Config, declared.verbs.Verb.Verb, declared.version.Version.Version, Limits.FitsConfig, Limits.IsVersion, Limits.total_words, Spelling.spaced, Spelling.verb_name, Spelling.command_words, Spelling.heap_words, Spelling.section_words, Spelling.version_words, Text.words_of, Text.kept_lines, Text.end_of}
 use Rattle.nmgc_script.specs.declared.fault.Cause.TheVariants as cause
@@ -28,7 +27,7 @@ abbrev pub HasFault : Version → Config → ℕ → List (List ℕ) → Cause �
 HasFault v h n words cause.Version = ⊥
 HasFault v h n words cause.Heap = ⊥
 HasFault v h n words cause.Thread = HasToBegin n words × (n < v.threads → words ≢ section_words n)
-HasFault v h n words cause.Total = HasToBegin n words × (most_heap_words < total_words h (n + 1))
+HasFault v h n words cause.Total = HasToBegin n words × (v.heap_words < total_words h (n + 1))
 HasFault v h n words cause.Command = (HasToBegin n words → ⊥) × ((name : Verb) → first_of words ≢ verb_name name)
 HasFault v h n words cause.Arity = (HasToBegin n words → ⊥) × ((name : Verb) × (first_of words ≡ verb_name name)) ×
     (HasArity v (first_of words) (length words) → ⊥)
@@ -72,8 +71,8 @@ IsFaultInRest v h n end (line ∷ lines) number c =
 abbrev pub IsFaultFromHeap : Version → ℕ → List (ℕ × List ℕ) → ℕ → Cause → Type 0
 IsFaultFromHeap v end [] number c = (number ≡ end) × (c ≡ cause.Heap)
 IsFaultFromHeap v end (line ∷ lines) number c =
-    ((number ≡ line.0) × (c ≡ cause.Heap) × ((h : Config) → FitsConfig h → line.1 ≢ spaced (heap_words h))) ⊎
-    ((h : Config) × FitsConfig h × (line.1 ≡ spaced (heap_words h)) × IsFaultInRest v h 0 end lines number c)
+    ((number ≡ line.0) × (c ≡ cause.Heap) × ((h : Config) → FitsConfig v.segments h → line.1 ≢ spaced (heap_words h))) ⊎
+    ((h : Config) × FitsConfig v.segments h × (line.1 ≡ spaced (heap_words h)) × IsFaultInRest v h 0 end lines number c)
 
 -- the fault of a bad script: the first bad line and its first cause; if the text ends too early, the line after the last
 abbrev pub IsFaultOfText : ℕ → List (ℕ × List ℕ) → ℕ → Cause → Type 0

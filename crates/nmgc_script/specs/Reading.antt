@@ -5,10 +5,10 @@
 -- in which they are reported.
 use Rattle.std.specs.Prelude.{◌≡◌, ℕ, ◌+◌, ◌-◌, ◌^◌, List, [], ◌∷◌, length, codes, decimal, Bool, false, Result, Ok, Err, ◌==◌, ◌&&◌, nat_le, if◌then◌else◌}
 use Rattle.std.specs.{Int.is_power_of_two, Str.bytes_eq, Str.Parse.digits_value}
-use Rattle.nmgc_limits.specs.Limits.{most_heap_words, most_nursery_words, most_quota, most_segment_words, most_segments, least_segment_words, most_slice, most_trigger}
+use Rattle.nmgc_limits.specs.Limits.{most_nursery_words, most_quota, most_segment_words, least_segment_words, most_slice, most_trigger}
 use Rattle.nmgc_world_spec.specs.{declared.command.Operand.Operand, declared.command.Operand.TheVariants.Register, declared.command.Operand.TheVariants.Shared, declared.command.Command.Command, Command.words_made}
 use Rattle.nmgc_world_spec.specs.declared.command.Command.TheVariants.{Num, Nil, Mov, Con, Var, Arr, Thunk, Weak, Stack, Get, Set, Cas, Update, Force, Push, Pop, Deref, Finalise, NextFin, Show, Same, Yield, Collect, Full}
-use Rattle.nmgc_script.specs.{declared.fault.Cause.Cause, declared.fault.LineFault.LineFault, declared.fault.ScriptFault.ScriptFault, declared.script.Config.Config, declared.script.Script.Script, declared.verbs.Verb.Verb, declared.verbs.TheConstants.VERBS, declared.version.Version.Version, declared.sections.Entry.Entry, Limits.total_words, Limits.version_1, Limits.version_2, Spelling.verb_name, Text.words_of}
+use Rattle.nmgc_script.specs.{declared.fault.Cause.Cause, declared.fault.LineFault.LineFault, declared.fault.ScriptFault.ScriptFault, declared.script.Config.Config, declared.script.Script.Script, declared.verbs.Verb.Verb, declared.verbs.TheConstants.VERBS, declared.version.Version.Version, declared.sections.Entry.Entry, Limits.total_words, Limits.version_1, Limits.version_2, Limits.version_3, Spelling.verb_name, Text.words_of}
 use Rattle.nmgc_script.specs.declared.fault.Cause.TheVariants as cause
 use Rattle.nmgc_script.specs.declared.fault.LineFault.TheVariants as fault
 use Rattle.nmgc_script.specs.declared.fault.ScriptFault.TheVariants as script_fault
@@ -178,9 +178,9 @@ unfoldable pub segment_size_at : List ℕ → Result ℕ Cause
 segment_size_at word = between_at least_segment_words most_segment_words word >>= λ n. if is_power_of_two n then Ok n else Err cause.Operand
 
 -- the three sizes of a heap that tokens spell: its segments, the words of a segment and the words of a nursery
-unfoldable pub sizes_at : List ℕ → List ℕ → List ℕ → Result (ℕ × ℕ × ℕ) Cause
-sizes_at segments words nursery = do
-  s ← between_at 1 most_segments segments
+unfoldable pub sizes_at : Version → List ℕ → List ℕ → List ℕ → Result (ℕ × ℕ × ℕ) Cause
+sizes_at v segments words nursery = do
+  s ← between_at 1 v.segments segments
   w ← segment_size_at words
   n ← between_at w most_nursery_words nursery
   Ok (s, w, n)
@@ -194,16 +194,16 @@ pace_at slice quota trigger = do
   Ok (l, q, t)
 
 -- the settings that the six tokens of a heap line spell
-unfoldable pub config_at : List ℕ → List ℕ → List ℕ → List ℕ → List ℕ → List ℕ → Result Config Cause
-config_at segments words nursery slice quota trigger = do
-  sizes ← sizes_at segments words nursery
+unfoldable pub config_at : Version → List ℕ → List ℕ → List ℕ → List ℕ → List ℕ → List ℕ → Result Config Cause
+config_at v segments words nursery slice quota trigger = do
+  sizes ← sizes_at v segments words nursery
   pace ← pace_at slice quota trigger
   Ok (record { segments = sizes.0; words = sizes.1; nursery = sizes.2; slice = pace.0; quota = pace.1; trigger = pace.2 })
 
 -- the settings that the tokens after `heap` spell
-unfoldable pub numbers_at : List (List ℕ) → Result Config Cause
-numbers_at (segments ∷ words ∷ nursery ∷ slice ∷ quota ∷ trigger ∷ []) = config_at segments words nursery slice quota trigger
-numbers_at words = Err cause.Heap
+unfoldable pub numbers_at : Version → List (List ℕ) → Result Config Cause
+numbers_at v (segments ∷ words ∷ nursery ∷ slice ∷ quota ∷ trigger ∷ []) = config_at v segments words nursery slice quota trigger
+numbers_at v words = Err cause.Heap
 
 -- the result with this cause in place of any fault
 abbrev pub or_cause : {A : Type 0} → Cause → Result A Cause → Result A Cause
@@ -211,9 +211,9 @@ or_cause c (Ok x) = Ok x
 or_cause c (Err e) = Err c
 
 -- the settings that the tokens of a heap line spell
-unfoldable pub heap_words_at : List (List ℕ) → Result Config Cause
-heap_words_at [] = Err cause.Heap
-heap_words_at (name ∷ words) = if bytes_eq name (codes "heap") then or_cause cause.Heap (numbers_at words) else Err cause.Heap
+unfoldable pub heap_words_at : Version → List (List ℕ) → Result Config Cause
+heap_words_at v [] = Err cause.Heap
+heap_words_at v (name ∷ words) = if bytes_eq name (codes "heap") then or_cause cause.Heap (numbers_at v words) else Err cause.Heap
 
 -- A SECTION LINE: the number of the next thread, and the total
 
@@ -227,7 +227,7 @@ thread_at version words = Err cause.Thread
 unfoldable pub section_at : Version → Config → ℕ → List (List ℕ) → Result Entry Cause
 section_at v h n words = do
   thread ← thread_at v words
-  if thread == n then (if nat_le (total_words h (n + 1)) most_heap_words then Ok entry.Section else Err cause.Total) else Err cause.Thread
+  if thread == n then (if nat_le (total_words h (n + 1)) v.heap_words then Ok entry.Section else Err cause.Total) else Err cause.Thread
 
 -- A LINE AFTER THE FIRST SECTION LINE
 
@@ -279,18 +279,19 @@ unfoldable pub version_at : ℕ → List (ℕ × List ℕ) → Result (Version �
 version_at end [] = Err (end, cause.Version)
 version_at end (line ∷ lines) =
     if bytes_eq line.1 (codes "nmgc 1") then Ok (version_1, lines) else
-    (if bytes_eq line.1 (codes "nmgc 2") then Ok (version_2, lines) else Err (line.0, cause.Version))
+    (if bytes_eq line.1 (codes "nmgc 2") then Ok (version_2, lines) else
+    (if bytes_eq line.1 (codes "nmgc 3") then Ok (version_3, lines) else Err (line.0, cause.Version)))
 
 -- the settings of the heap line, and the lines after it
-unfoldable pub heap_at : ℕ → List (ℕ × List ℕ) → Result (Config × List (ℕ × List ℕ)) (ℕ × Cause)
-heap_at end [] = Err (end, cause.Heap)
-heap_at end (line ∷ lines) = at_line line.0 (heap_words_at (words_of line.1)) >>= λ config. Ok (config, lines)
+unfoldable pub heap_at : Version → ℕ → List (ℕ × List ℕ) → Result (Config × List (ℕ × List ℕ)) (ℕ × Cause)
+heap_at v end [] = Err (end, cause.Heap)
+heap_at v end (line ∷ lines) = at_line line.0 (heap_words_at v (words_of line.1)) >>= λ config. Ok (config, lines)
 
 -- the script of these lines; if they end too early, the fault is at the line after the last
 unfoldable pub script_at : ℕ → List (ℕ × List ℕ) → Result Script (ℕ × Cause)
 script_at end lines = do
   version ← version_at end lines
-  heap ← heap_at end version.1
+  heap ← heap_at version.0 end version.1
   threads ← threads_at version.0 end heap.0 heap.1
   Ok (record { version = version.0.number; config = heap.0; threads = threads })
 

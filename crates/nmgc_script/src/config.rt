@@ -6,10 +6,10 @@ ghost use Rattle.std.specs.Prelude.{◌≡◌, map, IfOk};
 ghost use Rattle.nmgc_script.specs.{Limits.FitsConfig, Reading.Gives, Reading.between_at, Reading.segment_size_at, Reading.sizes_at, Reading.pace_at, Reading.config_at, Reading.numbers_at, Reading.heap_words_at};
 
 use crate::tokens::small;
+use crate::version::Version;
 use crate::{Cause, Config, LineFault};
 use nmgc_limits::{
-    MAX_NURSERY_WORDS, MAX_QUOTA, MAX_SEGMENT_WORDS, MAX_SEGMENTS, MAX_SLICE, MAX_TRIGGER,
-    MIN_SEGMENT_WORDS,
+    MAX_NURSERY_WORDS, MAX_QUOTA, MAX_SEGMENT_WORDS, MAX_SLICE, MAX_TRIGGER, MIN_SEGMENT_WORDS,
 };
 
 // Returns the number from `low` to `high` that a token spells.
@@ -38,10 +38,15 @@ fn segment_size(word: &[u8]) -> Result<u32, LineFault>
 
 // Returns the sizes of a heap that tokens spell: its segments, the words of a segment and the words of a nursery.
 #[tactic(auto, unfolding(crate::specs::Reading::sizes_at))]
-fn sizes(segments: &[u8], words: &[u8], nursery: &[u8]) -> Result<(u32, u32, u32), LineFault>
-    ensures { Gives result (sizes_at segments.now words.now nursery.now) }
+fn sizes(
+    version: Version,
+    segments: &[u8],
+    words: &[u8],
+    nursery: &[u8],
+) -> Result<(u32, u32, u32), LineFault>
+    ensures { Gives result (sizes_at version segments.now words.now nursery.now) }
 {
-    let segments = between(segments, 1, MAX_SEGMENTS)?;
+    let segments = between(segments, 1, version.segments)?;
     let words = segment_size(words)?;
     Ok((segments, words, between(nursery, words, MAX_NURSERY_WORDS)?))
 }
@@ -61,6 +66,7 @@ fn pace(slice: &[u8], quota: &[u8], trigger: &[u8]) -> Result<(u32, u32, u32), L
 // Returns the settings that the six tokens of a heap line spell.
 #[tactic(auto, unfolding(crate::specs::Reading::config_at))]
 fn config(
+    version: Version,
     segments: &[u8],
     words: &[u8],
     nursery: &[u8],
@@ -68,9 +74,9 @@ fn config(
     quota: &[u8],
     trigger: &[u8],
 ) -> Result<Config, LineFault>
-    ensures { Gives result (config_at segments.now words.now nursery.now slice.now quota.now trigger.now) }
+    ensures { Gives result (config_at version segments.now words.now nursery.now slice.now quota.now trigger.now) }
 {
-    let (segments, words, nursery) = sizes(segments, words, nursery)?;
+    let (segments, words, nursery) = sizes(version, segments, words, nursery)?;
     let (slice, quota, trigger) = pace(slice, quota, trigger)?;
     Ok(Config {
         segments,
@@ -84,12 +90,12 @@ fn config(
 
 // Returns the settings that the tokens after `heap` spell.
 #[tactic(auto, unfolding(crate::specs::Reading::numbers_at))]
-fn numbers(words: &[&[u8]]) -> Result<Config, LineFault>
-    ensures { Gives result (numbers_at (map (λ w. w.now) words.now)) }
+fn numbers(version: Version, words: &[&[u8]]) -> Result<Config, LineFault>
+    ensures { Gives result (numbers_at version (map (λ w. w.now) words.now)) }
 {
     match words {
         [segments, words, nursery, slice, quota, trigger] => {
-            config(segments, words, nursery, slice, quota, trigger)
+            config(version, segments, words, nursery, slice, quota, trigger)
         }
         _ => Err(LineFault::Bad(Cause::Heap)),
     }
@@ -97,9 +103,9 @@ fn numbers(words: &[&[u8]]) -> Result<Config, LineFault>
 
 /// Returns the settings that the tokens of a heap line spell. Takes no memory.
 #[tactic(auto, unfolding(crate::specs::Reading::heap_words_at))]
-pub fn heap_words(words: &[&[u8]]) -> Result<Config, LineFault>
-    ensures gives { Gives result (heap_words_at (map (λ w. w.now) words.now)) }
-    ensures fits { IfOk result (λ c. FitsConfig c) }
+pub fn heap_words(version: Version, words: &[&[u8]]) -> Result<Config, LineFault>
+    ensures gives { Gives result (heap_words_at version (map (λ w. w.now) words.now)) }
+    ensures fits { IfOk result (λ c. FitsConfig version.segments c) }
 {
     let Some((name, words)) = words.split_first() else {
         return Err(LineFault::Bad(Cause::Heap));
@@ -107,7 +113,7 @@ pub fn heap_words(words: &[&[u8]]) -> Result<Config, LineFault>
     if *name != b"heap".as_slice() {
         return Err(LineFault::Bad(Cause::Heap));
     }
-    match numbers(words) {
+    match numbers(version, words) {
         Ok(config) => Ok(config),
         Err(LineFault::NoMemory) => Err(LineFault::NoMemory),
         Err(LineFault::Bad(_)) => Err(LineFault::Bad(Cause::Heap)),

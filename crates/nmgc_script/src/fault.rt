@@ -13,7 +13,7 @@ use thiserror::Error;
 /// The faults of a line, in the order in which they are tried.
 #[derive(Clone, Copy, Debug, PartialEq, Eq, Error)]
 pub enum Cause {
-    /// The first line isn't `nmgc 1` or `nmgc 2`.
+    /// The first line isn't `nmgc 1`, `nmgc 2` or `nmgc 3`.
     #[error("version")]
     Version,
     /// The second line isn't a heap line within the limits.

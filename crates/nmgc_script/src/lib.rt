@@ -27,6 +27,6 @@ mod version;
 pub use bench::{MAX_BATCHES, generate};
 pub(crate) use fault::LineFault;
 pub use fault::{Cause, ScriptFault};
-pub use parsing::{parse, spells_one_script};
+pub use parsing::{is_too_long, parse, spells_one_script};
 pub use printing::print;
 pub use script::{Config, Script, upgrade};

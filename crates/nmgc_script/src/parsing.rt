@@ -3,8 +3,8 @@
 //! Lines are read in order. Each is cut into tokens in one vector that is reused, so the time is linear in the bytes. The
 //! first fault ends the reading, so the reported line is the first bad line. Easy to get wrong: if the text ends before the
 //! first section, the reported line is the line after the last, and lines that are passed over count.
-ghost use Rattle.std.specs.Prelude.{◌≡◌, ℕ, ◌+◌, ◌<◌, ◌≤◌, ◌^◌, length, sum_by, IfErr, IfOk, MatchResult};
-ghost use Rattle.nmgc_script.specs.{Faults.IsFaultOf, Faults.IsFaultOfText, Limits.FitsConfig, Spelling.Spells, declared.fault.Cause.Cause as Why, declared.script.Script.Script as Spelled, Text.kept_after, Text.end_after, Text.kept_lines, Text.end_of, declared.fault.ScriptFault.TheVariants.NoMemory as no_memory};
+ghost use Rattle.std.specs.Prelude.{◌≡◌, true, false, ℕ, ◌+◌, ◌<◌, ◌≤◌, ◌^◌, length, sum_by, IfErr, IfOk, MatchResult};
+ghost use Rattle.nmgc_script.specs.{Faults.IsFaultOf, Faults.IsFaultOfText, Limits.FitsConfig, Limits.lines_bytes, Limits.most_bytes, Spelling.Spells, declared.fault.Cause.Cause as Why, declared.script.Script.Script as Spelled, Text.kept_after, Text.end_after, Text.kept_lines, Text.end_of, declared.fault.ScriptFault.TheVariants.NoMemory as no_memory};
 ghost use Rattle.nmgc_script.specs.Reading.{GivesAt, at_line, version_at, heap_at, programs_at, threads_at, script_at, placed};
 
 use crate::config::heap_words;
@@ -49,6 +49,42 @@ pub fn spells_one_script(bytes: &[u8])
     ensures never_both { (one : Spelled) (n : ℕ) (c : Why) → Spells bytes.now one → IsFaultOfText (end_of bytes.now) (kept_lines bytes.now) n c → ⊥ }
 {}
 
+/// Whether there are more bytes than a script that begins like them may have. This depends on the version that the first line
+/// names that isn't passed over. Takes no memory.
+pub fn is_too_long(bytes: &[u8]) -> bool
+    requires { length bytes.now ≤ 2 ^ 31 }
+    ensures long { result ≡ true → most_bytes bytes.now < length bytes.now }
+    ensures short { result ≡ false → length bytes.now ≤ most_bytes bytes.now }
+{
+    if bytes.len() > most_bytes(bytes) {
+        return true;
+    }
+    false
+}
+
+// Returns the most bytes of a script that begins like the bytes.
+fn most_bytes(bytes: &[u8]) -> usize
+    requires { length bytes.now ≤ 2 ^ 31 }
+    ensures { result ≡ most_bytes bytes.now }
+{
+    let mut lines = Lines::new(bytes);
+    lines_bytes(&mut lines)
+}
+
+// Takes the version line from `lines`, and returns the most bytes of a script with these lines.
+#[tactic(auto, unfolding(crate::specs::Limits::lines_bytes))]
+fn lines_bytes(lines: &mut Lines) -> usize
+    ensures { result ≡ lines_bytes (kept_after lines.old.number lines.old.rest.now) }
+{
+    let Some((_, line)) = lines.next() else {
+        return Version::first().bytes;
+    };
+    if line == b"nmgc 3".as_slice() {
+        return Version::third().bytes;
+    }
+    Version::first().bytes
+}
+
 // Returns the script that the bytes spell, or the first bad line and its cause.
 #[tactic(auto, unfolding(crate::specs::Reading::script_at))]
 fn script(alloc: Global, bytes: &[u8]) -> Result<Script, ScriptFault>
@@ -58,7 +94,7 @@ fn script(alloc: Global, bytes: &[u8]) -> Result<Script, ScriptFault>
     let mut lines = Lines::new(bytes);
     let mut words = Vec::new(alloc);
     let version = version_line(&mut lines)?;
-    let config = heap_line(&mut lines, &mut words)?;
+    let config = heap_line(version, &mut lines, &mut words)?;
     let threads = threads(alloc, version, &config, &mut lines, &mut words)?;
     Ok(Script {
         version: version.number,
@@ -89,6 +125,9 @@ fn version_line(lines: &mut Lines) -> Result<Version, ScriptFault>
     if line == b"nmgc 2".as_slice() {
         return Ok(Version::second());
     }
+    if line == b"nmgc 3".as_slice() {
+        return Ok(Version::third());
+    }
     Err(ScriptFault::Bad {
         line: number,
         cause: Cause::Version,
@@ -97,14 +136,18 @@ fn version_line(lines: &mut Lines) -> Result<Version, ScriptFault>
 
 // Takes the heap line from `lines`, and returns its settings.
 #[tactic(auto, unfolding(crate::specs::Reading::heap_at))]
-fn heap_line<'a>(lines: &mut Lines<'a>, words: &mut Vec<&'a [u8]>) -> Result<Config, ScriptFault>
+fn heap_line<'a>(
+    version: Version,
+    lines: &mut Lines<'a>,
+    words: &mut Vec<&'a [u8]>,
+) -> Result<Config, ScriptFault>
     ensures gives { GivesAt (λ c. (
       c,
       kept_after lines.new.number lines.new.rest.now,
     )) result
-        (heap_at (end_after lines.old.number lines.old.rest.now) (kept_after lines.old.number lines.old.rest.now)) }
+        (heap_at version (end_after lines.old.number lines.old.rest.now) (kept_after lines.old.number lines.old.rest.now)) }
     ensures end { end_after lines.new.number lines.new.rest.now ≡ end_after lines.old.number lines.old.rest.now }
-    ensures fits { IfOk result (λ c. FitsConfig c) }
+    ensures fits { IfOk result (λ c. FitsConfig version.segments c) }
 {
     let Some((number, line)) = lines.next() else {
         return Err(ScriptFault::Bad {
@@ -113,7 +156,7 @@ fn heap_line<'a>(lines: &mut Lines<'a>, words: &mut Vec<&'a [u8]>) -> Result<Con
         });
     };
     cut_words(words, line, lines.text())?;
-    at_line(number, heap_words(words))
+    at_line(number, heap_words(version, words))
 }
 
 // Returns the result of reading a line, with the number of the line added to a fault.
@@ -138,7 +181,7 @@ fn threads<'a>(
     lines: &mut Lines<'a>,
     words: &mut Vec<&'a [u8]>,
 ) -> Result<List<List<PackedCommand>>, ScriptFault>
-    requires { FitsConfig config.now }
+    requires { FitsConfig version.segments config.now }
     ensures { GivesAt (λ t.
         t) result (threads_at version (end_after lines.old.number lines.old.rest.now) config.now (kept_after lines.old.number lines.old.rest.now)) }
 {
@@ -161,7 +204,7 @@ fn programs<'a>(
     lines: &mut Lines<'a>,
     words: &mut Vec<&'a [u8]>,
 ) -> Result<List<List<PackedCommand>>, ScriptFault>
-    requires { FitsConfig config.now }
+    requires { FitsConfig version.segments config.now }
     ensures { GivesAt (λ t. t) result (programs_at version config.now (kept_after lines.old.number lines.old.rest.now)) }
 {
     let mut threads = List::new(alloc);

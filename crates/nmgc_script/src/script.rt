@@ -5,7 +5,7 @@
 //! Easy to get wrong: the least nursery depends on the words of a segment, since an object that fills a segment has to fit in
 //! a nursery first.
 ghost use Rattle.std.specs.Prelude.{◌≡◌};
-ghost use Rattle.nmgc_script.specs.Limits.{FitsScript, upgraded};
+ghost use Rattle.nmgc_script.specs.Limits.{FitsScript, upgraded, upgraded_number};
 
 use crate::version::Version;
 use nmgc_commands::PackedCommand;
@@ -36,14 +36,25 @@ pub struct Script {
     pub threads: List<List<PackedCommand>>,
 }
 
-/// Returns the script in version 2, otherwise unchanged. If `script` is within the limits, so is the result. Takes no memory.
+/// Returns a script of version 1 in version 2, otherwise unchanged, and a script of a later version as it is. If `script` is
+/// within the limits, so is the result. Takes no memory.
 pub fn upgrade(script: Script) -> Script
     ensures is { result ≡ upgraded script }
     ensures fits { FitsScript script → FitsScript result }
 {
     Script {
-        version: Version::second().number,
+        version: upgraded_number(script.version),
         config: script.config,
         threads: script.threads,
     }
+}
+
+// Returns the version of the upgrade of a script of version `number`.
+fn upgraded_number(number: u8) -> u8
+    ensures { result ≡ upgraded_number number }
+{
+    if number == Version::first().number {
+        return Version::second().number;
+    }
+    number
 }

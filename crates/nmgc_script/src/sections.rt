@@ -4,6 +4,7 @@
 //! heap line. Easy to get wrong: the section that begins counts towards the total itself, and a first token `thread` makes a
 //! section line of any line after the heap line.
 ghost use Rattle.std.specs.Prelude.{◌≡◌, ◌+◌, ◌<◌, ◌≤◌, map, IfOk};
+ghost use Rattle.nmgc_limits.specs.Limits.{most_segment_words};
 ghost use Rattle.nmgc_script.specs.{Limits.FitsConfig, Limits.total_words, Reading.Gives, Reading.thread_at, Reading.section_at, Reading.is_section, Reading.entry_at};
 
 use crate::commands::command;
@@ -11,7 +12,6 @@ use crate::tokens::small;
 use crate::version::Version;
 use crate::{Cause, Config, LineFault};
 use nmgc_commands::PackedCommand;
-use nmgc_limits::MAX_HEAP_WORDS;
 use std::alloc::Global;
 
 /// The content of a line after the heap line.
@@ -43,11 +43,11 @@ fn thread(version: Version, words: &[&[u8]]) -> Result<u8, LineFault>
 }
 
 // Returns the number of words of all segments and `threads` nurseries together.
-fn total_words(config: &Config, threads: u8) -> u32
-    requires { FitsConfig config.now }
+fn total_words(config: &Config, threads: u8) -> u64
+    requires { config.now.words ≤ most_segment_words }
     ensures { result ≡ total_words config.now threads }
 {
-    config.segments * config.words + threads as u32 * config.nursery
+    config.segments as u64 * config.words as u64 + threads as u64 * config.nursery as u64
 }
 
 /// Reads the line that begins the next section, after `begun` sections, and returns its entry. If it is no such line, `Bad`
@@ -59,14 +59,14 @@ pub fn section(
     begun: u8,
     words: &[&[u8]],
 ) -> Result<Entry, LineFault>
-    requires { FitsConfig config.now }
+    requires { FitsConfig version.segments config.now }
     ensures gives { Gives result (section_at version config.now begun (map (λ w. w.now) words.now)) }
     ensures within { IfOk result (λ e. begun < 255) }
 {
     if thread(version, words)? != begun {
         return Err(LineFault::Bad(Cause::Thread));
     }
-    if total_words(config, begun + 1) > MAX_HEAP_WORDS {
+    if total_words(config, begun + 1) > u64::from(version.heap_words) {
         return Err(LineFault::Bad(Cause::Total));
     }
     Ok(Entry::Section)
@@ -92,7 +92,7 @@ pub fn read_entry(
     begun: u8,
     words: &[&[u8]],
 ) -> Result<Entry, LineFault>
-    requires { FitsConfig config.now }
+    requires { FitsConfig version.segments config.now }
     ensures gives { Gives result (entry_at version config.now begun (map (λ w. w.now) words.now)) }
     ensures within { IfOk result (λ e. e ≡ Entry.Section → begun < 255) }
 {

@@ -1,13 +1,13 @@
 //! Versions of the grammar.
 //!
 //! A script's first line names its version. All differences between versions are in one value, which the functions that read
-//! a line receive. They are the number of threads of a script, and the registers that a command names. A world may have more
-//! of both than an old version can name. Facts of both are laws of any usable version (`specs/laws/Versions.antt`). So a
-//! third version is a constant and a line that is read.
+//! a line receive: the most threads, segments, words of the heap and bytes, and the registers that a command names. An old
+//! version may allow fewer than there are. Their facts are laws of any usable version (`specs/laws/Versions.antt`). So a fourth
+//! version is a constant and a line that is read.
 ghost use Rattle.std.specs.Prelude.{◌≡◌};
-ghost use Rattle.nmgc_script.specs.Limits.{version_1, version_2};
+ghost use Rattle.nmgc_script.specs.Limits.{version_1, version_2, version_3};
 
-use nmgc_limits::{MAKERS, REGISTERS};
+use nmgc_limits::{MAKERS, MAX_HEAP_WORDS, MAX_SCRIPT_BYTES, REGISTERS};
 
 /// The limits of a version.
 #[derive(Clone, Copy, Debug, PartialEq, Eq)]
@@ -18,6 +18,12 @@ pub struct Version {
     pub threads: u8,
     /// The number of registers that can be named, from 0.
     pub registers: u8,
+    /// The greatest number of segments.
+    pub segments: u32,
+    /// The most words of all segments and nurseries together.
+    pub heap_words: u32,
+    /// The most bytes of a script.
+    pub bytes: usize,
 }
 
 impl Version {
@@ -29,6 +35,9 @@ impl Version {
             number: 1,
             threads: 8,
             registers: 16,
+            segments: 65_536,
+            heap_words: 4_194_304,
+            bytes: 16_777_216,
         }
     }
 
@@ -40,6 +49,22 @@ impl Version {
             number: 2,
             threads: MAKERS,
             registers: REGISTERS,
+            segments: 65_536,
+            heap_words: 4_194_304,
+            bytes: 16_777_216,
+        }
+    }
+
+    /// Returns version 3. Takes no memory.
+    pub fn third() -> Version
+        ensures { result ≡ version_3 }
+    {
+        let second = Version::second();
+        Version {
+            number: 3,
+            heap_words: MAX_HEAP_WORDS,
+            bytes: MAX_SCRIPT_BYTES,
+            ..second
         }
     }
 }

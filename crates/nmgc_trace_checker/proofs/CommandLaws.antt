@@ -1,11 +1,10 @@
 -- A line spells a command exactly if the script with this line as its only command is read and has a command.
 use Rattle.std.proofs.{Common.◌≡◌, Common.◌<◌, Common.◌≤◌, Common.◌+◌, Common.◌*◌, Common.ℕ, Common.List, Common.[], Common.◌∷◌, Common.◌++◌, Common.map, Common.length, Common.refl, Common.sym, Common.ap, Common.subst, Common.◌∙◌, Common.arith, Common.true, Common.false, Common.codes, Common.inl, Common.inr, Common.Option, Common.Some, Common.None, Common.Result, Common.Ok, Common.Err, Common.IfOk, Common.MatchResult, Common.append_assoc, Common.lit≤, lemmas.Bool.ne_eqb, lemmas.Bool.cases_Bool, lemmas.List.append-nil, lemmas.List.map_push, lemmas.List.same_from_push, lemmas.List.length-append, lemmas.List.Elements.All-nil, lemmas.List.Elements.All-cons, lemmas.List.Elements.All-contains, lemmas.List.Elements.Contains-push}
 use Rattle.std.specs.{Prelude.All, Prelude.Contains, Fmt.digits}
-use lib.Count.{ones}
 use Rattle.nmgc_lists.specs.{declared.memory.NoMemory.NoMemory, laws.Items.contains_cases, laws.Items.contains_head, laws.Items.contains_tail, laws.Items.nothing_in}
 use Rattle.nmgc_world_spec.specs.{declared.command.Command.Command, Command.Fits, Command.HasRegistersBelow}
 use Rattle.nmgc_limits.specs.declared.mutators.TheConstants.{REGISTERS}
-use Rattle.nmgc_script.specs.{declared.fault.Cause.Cause, declared.fault.ScriptFault.ScriptFault, declared.script.Config.Config, declared.script.Script.Script, Limits.FitsConfig, Limits.FitsScript, Text.lines_of, Text.kept_from, Text.kept_lines, Text.is_passed, Spelling.spaced, Spelling.command_words, Spelling.version_words, Spelling.heap_words, Spelling.section_words, Spelling.program_lines, Spelling.section_lines, Spelling.Spells, laws.Lines.IsLine, laws.Lines.IsKept, laws.Lines.made_kept, laws.Lines.made_short, laws.Lines.command_line}
+use Rattle.nmgc_script.specs.{declared.fault.Cause.Cause, declared.fault.ScriptFault.ScriptFault, declared.script.Config.Config, declared.script.Script.Script, Limits.FitsScript, Text.lines_of, Text.kept_from, Text.kept_lines, Text.is_passed, Spelling.spaced, Spelling.command_words, Spelling.version_words, Spelling.heap_words, Spelling.section_words, Spelling.program_lines, Spelling.section_lines, Spelling.Spells, laws.Lines.IsLine, laws.Lines.IsKept, laws.Lines.made_kept, laws.Lines.made_short, laws.Lines.command_line, laws.Versions.bench_sizes_fit}
 use Rattle.nmgc_script.specs.declared.fault.ScriptFault.TheVariants as script_fault
 use Rattle.nmgc_trace_checker.specs.Reading.{script_head, IsLastIf, IsLastOf, IsSpelled, IsSpelledIf}
 use Rattle.nmgc_trace_checker.proofs.LineWords.{command_count}
@@ -113,25 +112,10 @@ config = record { segments = 128; words = 4096; nursery = 4096; slice = 4096; qu
 abbrev with_command : Command → Script
 with_command c = record { version = 2; config = config; threads = (c ∷ []) ∷ [] }
 
-config_fits : FitsConfig config
-unfolding ones
-config_fits = record {
-  some_segments = lit≤ tt;
-  segments = lit≤ tt;
-  words = record { power = refl; least = lit≤ tt; most = lit≤ tt };
-  some_nursery = lit≤ tt;
-  nursery = lit≤ tt;
-  some_slice = lit≤ tt;
-  slice = lit≤ tt;
-  some_quota = lit≤ tt;
-  quota = lit≤ tt;
-  trigger = lit≤ tt;
-}
-
 with_fits : (c : Command) → Fits 4096 c → FitsScript (with_command c)
 with_fits c f = record {
   version = refl;
-  config = config_fits;
+  config = bench_sizes_fit;
   some_thread = omega arith;
   threads = omega arith;
   total = omega arith;

@@ -1,5 +1,5 @@
 -- The rounds that may still follow: the steps that leave few, and the 32 bits of a run's numbers.
-use Rattle.nmgc_cycle.proofs.{Vocabulary.ℕ, Vocabulary.◌≡◌, Vocabulary.◌+◌, Vocabulary.◌<◌, Vocabulary.◌≤◌, Vocabulary.◌^◌, Vocabulary.List, Vocabulary.[], Vocabulary.length, Vocabulary.ap, Vocabulary.◌∙◌, Vocabulary.arith, Vocabulary.inl, Vocabulary.inr, Vocabulary.RoundRows, Vocabulary.StopRow, Vocabulary.Script, Vocabulary.threads_few, Vocabulary.Collector, Vocabulary.commands_left, Vocabulary.most_stops, Vocabulary.phase_left, Vocabulary.MayFollow, Vocabulary.AreFew, Vocabulary.NoneIsDue, Vocabulary.commands, Vocabulary.one_cycle, Vocabulary.no_cycle, Vocabulary.CanStop, Vocabulary.IsFresh, Vocabulary.IsInLimits, lengths.Measures.commands_most, lists.Phases.when_idle}
+use Rattle.nmgc_cycle.proofs.{Vocabulary.ℕ, Vocabulary.◌≡◌, Vocabulary.◌+◌, Vocabulary.◌<◌, Vocabulary.◌≤◌, Vocabulary.◌^◌, Vocabulary.List, Vocabulary.[], Vocabulary.length, Vocabulary.ap, Vocabulary.◌∙◌, Vocabulary.arith, Vocabulary.inl, Vocabulary.inr, Vocabulary.RoundRows, Vocabulary.StopRow, Vocabulary.Script, Vocabulary.segments_few, Vocabulary.threads_few, Vocabulary.total_few, Vocabulary.Collector, Vocabulary.commands_left, Vocabulary.most_stops, Vocabulary.phase_left, Vocabulary.MayFollow, Vocabulary.AreFew, Vocabulary.NoneIsDue, Vocabulary.commands, Vocabulary.one_cycle, Vocabulary.no_cycle, Vocabulary.CanStop, Vocabulary.IsFresh, Vocabulary.IsInLimits, lengths.Measures.commands_most, lists.Phases.when_idle}
 
 -- the stops counted are no more than a run has
 pub within : (N : Type 0) (script : Script) (c : Collector) (stops : ℕ) → MayFollow N script c stops → stops ≤ most_stops script
@@ -12,8 +12,8 @@ pub stops_fit : (script : Script) → IsInLimits script → most_stops script < 
 stops_fit script limits =
     let most = commands_most script limits [] in
     let threads = threads_few script limits.fits in
-    let total = limits.fits.total in
-    let segments = limits.fits.config.segments in
+    let total = total_few script limits.fits in
+    let segments = segments_few script limits.fits in
     omega arith
 
 -- a step that changes no commands and adds nothing to the cycle in progress

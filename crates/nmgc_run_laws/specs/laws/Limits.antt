@@ -1,6 +1,6 @@
 -- The limits of a script hold through its runs.
 use Rattle.std.specs.Prelude.{◌≡◌, ◌∷◌}
-use Rattle.nmgc_run_laws.specs.laws.Vocabulary.{ℕ, List, [], length, sym, subst, inl, inr, All, cases_lt, get_or_past, All-nil, All-weaker, All-get_or, Fits, HasRegisters, Command, World, new_world, IsWithin, rows_keep_limits, closing_keeps_limits, new_is_within, CycleRow, StopRow, ClosesOrWaits, ClosesNow, Closes, IsWithinLimits, ScriptsHaveGoodPlans, StatesAreWithin, RoundsAreWithin, Turn, AreTurns, state_after, program_of, State, Plan, Progress, idle, marking, sweeping, start, cycle_started, Cycle, IsStop, EndsOrWaits, Finishes, DoesFullCycle, BeginsOrWaits, Proceeds, with_all_retired, threads_few}
+use Rattle.nmgc_run_laws.specs.laws.Vocabulary.{ℕ, List, [], length, sym, subst, inl, inr, All, cases_lt, get_or_past, All-nil, All-weaker, All-get_or, Fits, HasRegisters, Command, World, new_world, IsWithin, rows_keep_limits, closing_keeps_limits, new_is_within, CycleRow, StopRow, ClosesOrWaits, ClosesNow, Closes, IsWithinLimits, ScriptsHaveGoodPlans, StatesAreWithin, RoundsAreWithin, Turn, AreTurns, state_after, program_of, State, Plan, Progress, idle, marking, sweeping, start, cycle_started, Cycle, IsStop, EndsOrWaits, Finishes, DoesFullCycle, BeginsOrWaits, Proceeds, with_all_retired, segments_few, threads_few, total_few}
 use Rattle.nmgc_run_laws.specs.laws.{Lefts.stop_left, Programs.HasPrograms, Programs.rows_have, Programs.left_has, Runs.turn_holds, Runs.round_holds, Runs.opening_holds, Runs.opening_worked, Runs.sound_of, Runs.rounds_are_sound, States.IsSoundHere, States.Worked, States.lefts, Stops.stop_holds, Stops.full_begins}
 
 -- worlds through a stop
@@ -108,11 +108,11 @@ scripts_have_good_plans script h =
     record {
       layout = record {
         some = config.some_segments;
-        segments = config.segments;
+        segments = segments_few script h;
         words = config.words;
         nursery = config.some_nursery;
         mutators = (h.some_thread, threads_few script h);
-        heap = h.total;
+        heap = total_few script h;
       };
       fit = fit;
       runnable = λ short. record {

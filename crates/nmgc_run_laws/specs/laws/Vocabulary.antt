@@ -8,7 +8,7 @@ pub use Rattle.nmgc_lists.specs.laws.{Items.at_some, Items.contains_cases, Items
 pub use Rattle.nmgc_object.specs.{Places.nursery_place, Size.block_size, Words.IsName, Words.name_word, declared.layout.Layout.Layout, declared.layout.TheConstants.SHARED_PLACE, laws.Classes.least_block as large}
 pub use Rattle.nmgc_run_laws.specs.{Course.CyclesBeginInCourse, Course.IsInCourse, Course.IsLastBegun, Course.IsStateInCourse, Course.PromotionsStayInCourse, Course.RoundsStayInCourse, Course.RunsAreInCourse, Course.WaitsWhole, Headers.RowsKeepHeaders, Limits.IsWithinLimits, Limits.RoundsAreWithin, Limits.ScriptsHaveGoodPlans, Limits.StatesAreWithin, Places.BlocksAfterRound, Places.BlocksAtStop, Sound.AreSoundBlocks, Sound.IsAfterClosing, Sound.IsInCycle, Sound.IsOfSnapshot, Sound.IsRunnable, Sound.IsSoundState, Sound.LieKnown, Sound.RoundsAreSound, Sound.StatesAreSound, Sound.TrackedHaveBlocks, Sound.WaitKnown, Sound.left_of, Statements.ClosingsAreSoon, Statements.EachCycleHasItsRow, Statements.IsClosedSoon, Statements.LastIsOfTurn, Statements.LawfulAreOfRuns, Statements.LeftIsDetermined, Statements.RunGoesOn, Statements.AddsOneTurn, Statements.answered_count, Statements.last_free_count}
 pub use Rattle.nmgc_run_spec.specs.{Closing.Closes, Closing.ClosesNow, Closing.ClosesOrWaits, Closing.IsForcedSoon, Closing.IsSoon, Crowded.IsCrowded, Crowded.IsHeapFull, Crowded.IsKeptOf, Crowded.IsRunOf, Crowded.LeavesHeapFull, Crowded.StopInRun, Crowded.last_after, Crowded.last_stop, Crowded.next_stop, Crowded.opening_stop, Heap.FitBlocks, Heap.HoldsAfterRound, Heap.HoldsAtStop, Heap.IsBornPlace, Heap.snapshots, Lawful.IsLawfulFor, Round.IsRound, Round.SweepsBeside, Round.answered, Round.noted, Run.AreTurns, Run.IsRun, Run.IsTurn, Run.Run, Run.Stop, Run.AreRowsOf, Run.Turn, Run.last_state, Run.state_after, Slice.ends_slice, Slice.has_left, Slice.is_next, Slice.program_of, Slice.rest_of, Slice.slice, Slice.slice_of, Slice.slices, State.Plan, State.Progress, State.State, State.cycle_started, State.free_count, State.idle, State.is_idle, State.layout_of, State.marking, State.next_cycle, State.plan_of, State.reserve_of, State.start, State.sweeping, Stop.BeginsOrWaits, Stop.DoesFullCycle, Stop.EndsOrWaits, Stop.Finishes, Stop.IsCensus, Stop.IsFullDue, Stop.IsStop, Stop.Proceeds, Stop.Promotes, Stop.SweepsRest, Stop.answer_of, Stop.is_done, Stop.is_short, Stop.with_all_retired}
-pub use Rattle.nmgc_script.specs.{Limits.FitsScript, Limits.HasFewCommands, declared.script.Config.Config, declared.script.Script.Script, laws.Versions.threads_few}
+pub use Rattle.nmgc_script.specs.{Limits.FitsScript, Limits.HasFewCommands, declared.script.Config.Config, declared.script.Script.Script, laws.Versions.segments_few, laws.Versions.threads_few, laws.Versions.total_few}
 pub use Rattle.nmgc_segment.specs.declared.state.State.{State as Stands}
 pub use Rattle.nmgc_world_laws.specs.{Limits.IsWithin, Reachable.CanReplay, Reachable.HoldsOnly, laws.Deaths.closed_mutators, laws.Deaths.closed_names, laws.Deaths.closed_serials, laws.Deaths.closed_world, laws.Distinct.no_more, laws.Distinct.one_count, laws.Growth.step_grows, laws.HeldSteps.absent, laws.HeldSteps.some_of, laws.Keeps.step_leaves_others, laws.LimitSteps.closing_keeps_limits, laws.LimitSteps.rows_keep_limits, laws.LiveRows.replayed_names, laws.LiveRows.world_after, laws.NewLimits.new_is_within, laws.NewWorlds.each_new, laws.NewWorlds.new_is_world, laws.NewWorlds.new_nodes, laws.Reached.from_there, laws.Reached.listed_cases as listed_or_not, laws.Reached.nothing_reachable_is_freed, laws.Reached.rows_hold, laws.Reached.wide_known, laws.Reached.world_holds, laws.Shapes.rows_keep_shapes, laws.StoredLaws.old_weaks_stay, laws.WorldSteps.step_keeps_world}
 pub use Rattle.nmgc_world_spec.specs.{Command.Fits, Command.HasRegisters, Command.words_made, History.Row, History.replayed, History.rows_of, Listing.AreDistinct, Listing.Counts, Reach.IsBefore, Reach.IsInOrder, Reach.IsReached, Reach.Lists, Reach.RefersTo, Reach.closed, Reach.field, Reach.start as begins, Step.CanApply, Step.shared_name, Step.step, Wide.IsWide, World.IsWorld, World.World, World.new_mutator, World.new_world, World.no_mutator, World.node_of, World.serial_of, World.state_of, declared.command.Command.Command, declared.command.Reply.Reply, declared.mutator_state.MutatorState.MutatorState, declared.node.Node.Node, declared.value.Name.Name, laws.Orders.in_order_first, laws.Orders.in_order_rest, laws.Orders.not_before_itself}

@@ -239,11 +239,11 @@ command_line size Yield h = (small (codes "yield") refl refl, tt)
 command_line size Collect h = (small (codes "collect") refl refl, tt)
 command_line size Full h = (small (codes "full") refl refl, tt)
 
-pub heap_line_words : (c : Config) → FitsConfig c → MakeLine (heap_words c)
-heap_line_words c h = (
+pub heap_line_words : (most : ℕ) → most < 2 ^ 64 → (c : Config) → FitsConfig most c → MakeLine (heap_words c)
+heap_line_words most few c h = (
   small (codes "heap") refl refl,
   (
-    decimal_small c.segments (omega (arith, h.segments)),
+    decimal_small c.segments (omega (arith, h.segments, few)),
     (
       decimal_small c.words (omega (arith, h.words.most)),
       (
@@ -272,3 +272,6 @@ first_line = ap (λ (word : List ℕ). codes "nmgc " ++ word) (decimal_digit 1 (
 
 pub second_line : spaced (version_words 2) ≡ codes "nmgc 2"
 second_line = ap (λ (word : List ℕ). codes "nmgc " ++ word) (decimal_digit 2 (lit< tt))
+
+pub third_line : spaced (version_words 3) ≡ codes "nmgc 3"
+third_line = ap (λ (word : List ℕ). codes "nmgc " ++ word) (decimal_digit 3 (lit< tt))

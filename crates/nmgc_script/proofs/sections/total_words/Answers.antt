@@ -4,4 +4,5 @@ use Rattle.nmgc_script.proofs.sections.total_words.Goals as goal
 
 pub overflow_add-result : goal.overflow_add-result
 overflow_add-result c =
-    omega (arith, segments_small c.args.config.now c.requires, nurseries_small c.args.config.now c.args.threads c.requires (omega arith))
+    let config = c.args.config.now in
+    omega (arith, segments_small config (omega arith) c.requires, nurseries_small config c.args.threads (omega arith) (omega arith))
