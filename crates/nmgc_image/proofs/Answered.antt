@@ -1,5 +1,5 @@
 -- The result for a text whose lines were read as far as they can be taken.
-use Rattle.nmgc_image.proofs.Vocabulary.{◌≡◌, ◌≤◌, ℕ, List, [], ◌++◌, map, length, refl, sym, ap, subst, ◌∙◌, Bool, true, Some, None, Result, Ok, Err, slice_get, IfOk, IfErr, drop_all, Name, Image, Reader, ImageFault, IsFirstBad, IsFaultOf, ended, Spells, words_of, cut, line_at, start, run, image_of, FindsDeclared, AreRead, IsAnswer}
+use Rattle.nmgc_image.proofs.Vocabulary.{◌≡◌, ◌≤◌, ℕ, List, [], ◌++◌, map, length, refl, sym, ap, subst, ◌∙◌, Bool, true, Some, None, Result, Ok, Err, slice_get, IfOk, IfErr, drop_all, Name, Image, Reader, ImageFault, IsFirstBad, IsFaultOf, ended, Spells, tokens_of, cut, line_at, start, run, image_of, FindsDeclared, AreRead, IsAnswer}
 use Rattle.nmgc_image.specs.declared.fault.ImageFault.TheVariants as fault
 use Rattle.nmgc_image.proofs.{Cutting.cut_is_text, Steps.line_there, Steps.none_after, Steps.runs_all, Steps.taken_is, FirstBad.only, FirstBad.found, FirstBad.first_bad, FirstBad.not_spelled}
 
@@ -8,7 +8,7 @@ lost_answer bytes = record { found = tt; only = λ image s. refl; fault = tt }
 
 module _ (bytes : List ℕ) (d : Name →
     Bool) (agrees : FindsDeclared d (cut bytes).lines) (r : Reader) (number : ℕ) (rest : List ℕ) (read : AreRead d bytes r number rest) where
-  bad_next : (line : List ℕ) → slice_get (cut bytes).lines read.taken.before ≡ Some line → line_at d r (words_of line) ≡ None
+  bad_next : (line : List ℕ) → slice_get (cut bytes).lines read.taken.before ≡ Some line → line_at d r (tokens_of line) ≡ None
   bad_next line at =
       let there = line_there (cut bytes).lines read.taken.before line at in
       read.stuck line there.0 (sym read.taken.lines_are ∙ there.1)
@@ -31,7 +31,7 @@ module _ (bytes : List ℕ) (d : Name →
         fault = subst (IsFirstBad bytes) (sym t.number_is) (first_bad bytes d agrees t.before r t.within t.runs bad_next (not_done open_));
       }
 
-  whole_runs : rest ≡ [] → run d start (map words_of (cut bytes).lines) ≡ Some r
+  whole_runs : rest ≡ [] → run d start (map tokens_of (cut bytes).lines) ≡ Some r
   whole_runs none = runs_all d r (cut bytes).lines read.taken.before (none_after (cut bytes).lines read.taken.before (cc (read.taken.lines_are, none))) read.taken.runs
 
   whole_spells : r.ended ≡ true → rest ≡ [] → Spells bytes (image_of r)
@@ -41,7 +41,7 @@ module _ (bytes : List ℕ) (d : Name →
       IfErr result (λ f. f ≡ fault.NoMemory) → IsAnswer bytes result
   whole_answer is_yes none (Ok image) is lost = record {
     found = subst (Spells bytes) (sym is) (whole_spells is_yes none);
-    only = λ other s. taken_is d r (map words_of (cut bytes).lines) other (whole_runs none) (only bytes d agrees other s).0 ∙ sym is;
+    only = λ other s. taken_is d r (map tokens_of (cut bytes).lines) other (whole_runs none) (only bytes d agrees other s).0 ∙ sym is;
     fault = tt;
   }
   whole_answer is_yes none (Err f) is lost = record {

@@ -1,6 +1,6 @@
 -- An image is read exactly from its text, and for any other text the first bad line is reported.
-use Rattle.nmgc_image.proofs.Vocabulary.{◌≡◌, ◌≤◌, ◌<◌, ◌+◌, ℕ, List, [], ◌∷◌, ◌++◌, map, length, take, drop, get_or, refl, sym, ap, subst, ◌∙◌, arith, inl, inr, Bool, true, Some, None, All, Contains, slice_get, AllByRecursion, flat_map, cases_lt, append-nil, map-append, take_all, take_more, take-append-drop, none-some, same_Some, slice_get-get_or, All-from_recursion, recursion_from_All, Contains-append_left, Contains-append_right, Contains-append_cases, All-contains, MAKERS, Name, Value, Nil, Number, Ref, shared_name, held_by, contains_head, contains_tail, contains_cases, contains_at, nothing_in, contains_flat, flat_contains, contains_map, IsName, IsValue, bind_some, Held, ImageMutator, Entry, Image, Reader, IsHeld, IsMutator, names_of, values_of, values_in, IsOrderly, spaced, ended, first_words, mutator_words, register_words, queue_words, entry_words, own_lines, mutator_lines, last_words, image_lines, Spells, words_of, Cut, cut, IsWritable, IsDeclared, Begins, IsFirstBad, node_line_at, line_at, start, image_of, FindsDeclared, run}
-use Rattle.nmgc_image.proofs.{NodeLaws.IsSpellable, NodeLaws.line_again, LineLaws.MakeLine, LineLaws.spaced-lines, LineLaws.words_of-line, LineLaws.words_of-lines, LineLaws.made_lines, LineLaws.first_line, LineLaws.mutator_line, LineLaws.register_line, LineLaws.queue_line, LineLaws.entry_line, LineLaws.end_line, Cutting.cut_ended, Cutting.cut_is_text, Machine.run_append, Machine.IsIn, Machine.IsTaken, Machine.AreIn, Taken.spellable, Taken.image_taken, Taken.front_runs, Lines.IsGood, Lines.lines_so_far, Lines.start_good, Lines.start_lines, Lines.run_goes, Lines.IsPart, Lines.good_part, Lines.ended_lines, Lines.ended_orderly}
+use Rattle.nmgc_image.proofs.Vocabulary.{◌≡◌, ◌≤◌, ◌<◌, ◌+◌, ℕ, List, [], ◌∷◌, ◌++◌, map, length, take, drop, get_or, refl, sym, ap, subst, ◌∙◌, arith, inl, inr, Bool, true, Some, None, All, Contains, slice_get, AllByRecursion, flat_map, cases_lt, append-nil, map-append, take_all, take_more, take-append-drop, none-some, same_Some, slice_get-get_or, All-from_recursion, recursion_from_All, Contains-append_left, Contains-append_right, Contains-append_cases, All-contains, MAKERS, Name, Value, Nil, Number, Ref, shared_name, held_by, contains_head, contains_tail, contains_cases, contains_at, nothing_in, contains_flat, flat_contains, contains_map, IsName, IsValue, bind_some, Held, ImageMutator, Entry, Image, Reader, IsHeld, IsMutator, names_of, values_of, values_in, IsOrderly, spaced, ended, first_words, mutator_words, register_words, queue_words, entry_words, own_lines, mutator_lines, last_words, image_lines, Spells, tokens_of, Cut, cut, IsWritable, IsDeclared, Begins, IsFirstBad, node_line_at, line_at, start, image_of, FindsDeclared, run}
+use Rattle.nmgc_image.proofs.{NodeLaws.IsSpellable, NodeLaws.line_again, LineLaws.MakeLine, LineLaws.spaced-lines, LineLaws.tokens_of-line, LineLaws.tokens_of-lines, LineLaws.made_lines, LineLaws.first_line, LineLaws.mutator_line, LineLaws.register_line, LineLaws.queue_line, LineLaws.entry_line, LineLaws.end_line, Cutting.cut_ended, Cutting.cut_is_text, Machine.run_append, Machine.IsIn, Machine.IsTaken, Machine.AreIn, Taken.spellable, Taken.image_taken, Taken.front_runs, Lines.IsGood, Lines.lines_so_far, Lines.start_good, Lines.start_lines, Lines.run_goes, Lines.IsPart, Lines.good_part, Lines.ended_lines, Lines.ended_orderly}
 
 -- THE LINES OF AN IMAGE
 
@@ -118,7 +118,7 @@ module _ (image : Image) (o : IsOrderly image) where
       let m = map_contains spaced (image_lines image) (spaced (entry_words d.0)) d.3 in
       let spelt = spellable_of d.0 d.1 in
       let made : MakeLine m.0 = rec_at MakeLine (image_lines image) m.0 (image_made image o) m.1 in
-      let same : m.0 ≡ entry_words d.0 = sym (words_of-line m.0 made) ∙ ap words_of m.2 ∙ words_of-line (entry_words d.0) (entry_line d.0 spelt) in
+      let same : m.0 ≡ entry_words d.0 = sym (tokens_of-line m.0 made) ∙ ap tokens_of m.2 ∙ tokens_of-line (entry_words d.0) (entry_line d.0 spelt) in
       let there : Contains image.nodes d.0 = node_here m.0 d.0 m.1 (ap node_line_at same ∙ line_again d.0 spelt) in
       subst (Contains (names_of image.nodes)) d.2 (contains_map (λ (entry : Entry). entry.name) image.nodes d.0 there)
 
@@ -203,7 +203,7 @@ shared_valid = (omega arith, omega arith, λ same. refl)
 module _ (bytes : List ℕ) (d : Name → Bool) (agrees : FindsDeclared d (cut bytes).lines) where
   -- the text of an image is cut into its lines
   spelled_lines : (image : Image) → Spells bytes image → ((cut bytes).lines ≡ map spaced (image_lines image)) × ((cut bytes).rest ≡ []) ×
-      (map words_of (cut bytes).lines ≡ image_lines image)
+      (map tokens_of (cut bytes).lines ≡ image_lines image)
   spelled_lines image s =
       let made = image_made image s.valid.orderly in
       let c : cut bytes ≡ record { lines = map spaced (image_lines image); rest = [] } = ap cut s.text ∙
@@ -211,11 +211,11 @@ module _ (bytes : List ℕ) (d : Name → Bool) (agrees : FindsDeclared d (cut b
       let lines : (cut bytes).lines ≡ map spaced (image_lines image) = ap (λ (x : Cut). x.lines) c in (
         lines,
         ap (λ (x : Cut). x.rest) c,
-        ap (λ (l : List (List ℕ)). map words_of l) lines ∙ words_of-lines (image_lines image) made,
+        ap (λ (l : List (List ℕ)). map tokens_of l) lines ∙ tokens_of-lines (image_lines image) made,
       )
 
   -- an image that the text spells is read
-  pub only : (image : Image) → Spells bytes image → IsTaken d (map words_of (cut bytes).lines) image × ((cut bytes).rest ≡ [])
+  pub only : (image : Image) → Spells bytes image → IsTaken d (map tokens_of (cut bytes).lines) image × ((cut bytes).rest ≡ [])
   only image s =
       let c = spelled_lines image s in
       let declared : (name : Name) → Contains (names_of image.nodes) name →
@@ -225,12 +225,12 @@ module _ (bytes : List ℕ) (d : Name → Bool) (agrees : FindsDeclared d (cut b
       (subst (λ (l : List (List (List ℕ))). IsTaken d l image) (sym c.2) taken, c.1)
 
   -- the text spells the image that is read
-  pub found : (r : Reader) → run d start (map words_of (cut bytes).lines) ≡ Some r → r.ended ≡ true → (cut bytes).rest ≡ [] → Spells bytes (image_of r)
+  pub found : (r : Reader) → run d start (map tokens_of (cut bytes).lines) ≡ Some r → r.ended ≡ true → (cut bytes).rest ≡ [] → Spells bytes (image_of r)
   found r runs is_yes none =
-      let went = run_goes d (map words_of (cut bytes).lines) start r (start_good d) runs in
+      let went = run_goes d (map tokens_of (cut bytes).lines) start r (start_good d) runs in
       let good : IsGood d r = went.0 in
       let image : Image = image_of r in
-      let lines : image_lines (image_of r) ≡ map words_of (cut bytes).lines = cc (ended_lines d r good is_yes, went.1, start_lines) in
+      let lines : image_lines (image_of r) ≡ map tokens_of (cut bytes).lines = cc (ended_lines d r good is_yes, went.1, start_lines) in
       let whole : map spaced (image_lines (image_of r)) ≡ (cut bytes).lines = cc (lines, spaced-lines (cut bytes).lines) in
       let orderly : IsOrderly (image_of r) = ended_orderly d r good is_yes in
       let named : (name : Name) → IsName name → d name ≡ true →
@@ -251,39 +251,39 @@ module _ (bytes : List ℕ) (d : Name → Bool) (agrees : FindsDeclared d (cut b
     inside = are_in d b.image (λ name h. agrees.complete name (b.mentioned name h))
 
     -- lines with which an image begins are taken
-    begins_runs : (s : Reader) × (run d start (map words_of lines) ≡ Some s)
+    begins_runs : (s : Reader) × (run d start (map tokens_of lines) ≡ Some s)
     begins_runs =
         let made = image_made b.image b.orderly in
-        let whole : image_lines b.image ≡ map words_of lines ++ map words_of b.rest = cc (words_of-lines (image_lines b.image) made, b.lines_are, map-append words_of lines b.rest) in
-        front_runs d b.image b.orderly inside (map words_of lines) (map words_of b.rest) whole (λ none.
-        agrees.complete shared_name (b.shared (no_items words_of b.rest none)))
+        let whole : image_lines b.image ≡ map tokens_of lines ++ map tokens_of b.rest = cc (tokens_of-lines (image_lines b.image) made, b.lines_are, map-append tokens_of lines b.rest) in
+        front_runs d b.image b.orderly inside (map tokens_of lines) (map tokens_of b.rest) whole (λ none.
+        agrees.complete shared_name (b.shared (no_items tokens_of b.rest none)))
 
   some_line : (i : ℕ) → i < length (cut bytes).lines → (line : List ℕ) × (slice_get (cut bytes).lines i ≡ Some line) ×
       (take (i + 1) (cut bytes).lines ≡ take i (cut bytes).lines ++ line ∷ [])
   some_line i lt = (get_or (cut bytes).lines i [], slice_get-get_or (cut bytes).lines i [] lt, take_more (cut bytes).lines i [] lt)
 
-  part_begins : (lines : List (List ℕ)) (so_far : List (List (List ℕ))) → IsPart d so_far → so_far ≡ map words_of lines → Begins (cut bytes).lines lines
+  part_begins : (lines : List (List ℕ)) (so_far : List (List (List ℕ))) → IsPart d so_far → so_far ≡ map tokens_of lines → Begins (cut bytes).lines lines
   part_begins lines so_far part e = record {
     image = part.image;
     orderly = part.orderly;
     rest = map spaced part.rest;
-    lines_are = cc (part.lines_are, e, map-append spaced (map words_of lines) part.rest, spaced-lines lines);
+    lines_are = cc (part.lines_are, e, map-append spaced (map tokens_of lines) part.rest, spaced-lines lines);
     mentioned = λ name c.
         agrees.sound name (image_values part.image part.orderly (Ref name) c) (in_values (IsIn d) part.image part.mutators_in part.nodes_in (Ref name) c);
     shared = λ none. agrees.sound shared_name shared_valid (part.shared (no_items spaced part.rest none));
   }
 
-  module _ (i : ℕ) (r : Reader) (within : i ≤ length (cut bytes).lines) (runs : run d start (map words_of (take i (cut bytes).lines)) ≡
-      Some r) (bad : (line : List ℕ) → slice_get (cut bytes).lines i ≡ Some line → line_at d r (words_of line) ≡ None) where
-    stops : (line : List ℕ) → slice_get (cut bytes).lines i ≡ Some line → run d start (map words_of (take i (cut bytes).lines ++ line ∷ [])) ≡ None
+  module _ (i : ℕ) (r : Reader) (within : i ≤ length (cut bytes).lines) (runs : run d start (map tokens_of (take i (cut bytes).lines)) ≡
+      Some r) (bad : (line : List ℕ) → slice_get (cut bytes).lines i ≡ Some line → line_at d r (tokens_of line) ≡ None) where
+    stops : (line : List ℕ) → slice_get (cut bytes).lines i ≡ Some line → run d start (map tokens_of (take i (cut bytes).lines ++ line ∷ [])) ≡ None
     stops line at =
-        cc (map-append words_of (take i (cut bytes).lines) (line ∷ []), run_append d start (map words_of (take i (cut bytes).lines)) (words_of line ∷ []), runs, bad line at)
+        cc (map-append tokens_of (take i (cut bytes).lines) (line ∷ []), run_append d start (map tokens_of (take i (cut bytes).lines)) (tokens_of line ∷ []), runs, bad line at)
 
     not_longer : i + 1 ≤ length (cut bytes).lines → Begins (cut bytes).lines (take (i + 1) (cut bytes).lines) → ⊥
     not_longer lt b =
         let line = some_line i (omega arith) in
         let s = begins_runs (take (i + 1) (cut bytes).lines) b in
-        none-some s.0 (sym (stops line.0 line.1) ∙ ap (λ (l : List (List ℕ)). run d start (map words_of l)) (sym line.2) ∙ s.1)
+        none-some s.0 (sym (stops line.0 line.1) ∙ ap (λ (l : List (List ℕ)). run d start (map tokens_of l)) (sym line.2) ∙ s.1)
 
     pub not_spelled : (length (cut bytes).lines ≤ i → r.ended ≡ true → (cut bytes).rest ≡ [] → ⊥) → (image : Image) → Spells bytes image → ⊥
     not_spelled not_done image s =
@@ -294,11 +294,11 @@ module _ (bytes : List ℕ) (d : Name → Bool) (agrees : FindsDeclared d (cut b
               let line = some_line i lt in
               let front : List (List ℕ) = take i lines ++ line.0 ∷ [] in
               let split : front ++ drop (i + 1) lines ≡ lines = cc (line.2, take-append-drop (i + 1) lines) in
-              let whole : run d start (map words_of front ++ map words_of (drop (i + 1) lines)) ≡ Some o.0.reader =
-              cc (map-append words_of front (drop (i + 1) lines), split, o.0.runs) in
-              let b = bind_some (run d start (map words_of front)) (λ t.
-              run d t (map words_of (drop (i + 1) lines))) o.0.reader
-              (sym (run_append d start (map words_of front) (map words_of (drop (i + 1) lines))) ∙ whole) in
+              let whole : run d start (map tokens_of front ++ map tokens_of (drop (i + 1) lines)) ≡ Some o.0.reader =
+              cc (map-append tokens_of front (drop (i + 1) lines), split, o.0.runs) in
+              let b = bind_some (run d start (map tokens_of front)) (λ t.
+              run d t (map tokens_of (drop (i + 1) lines))) o.0.reader
+              (sym (run_append d start (map tokens_of front) (map tokens_of (drop (i + 1) lines))) ∙ whole) in
               none-some b.0 (sym (stops line.0 line.1) ∙ b.1)
           | inr le ↦
               let same : r ≡ o.0.reader = same_Some r o.0.reader (cc (runs, take_all i lines le, o.0.runs)) in
@@ -309,8 +309,8 @@ module _ (bytes : List ℕ) (d : Name → Bool) (agrees : FindsDeclared d (cut b
     pub first_bad : (length (cut bytes).lines ≤ i → r.ended ≡ true → (cut bytes).rest ≡ [] → ⊥) → IsFirstBad bytes (i + 1)
     first_bad not_done =
         let lines = (cut bytes).lines in
-        let went = run_goes d (map words_of (take i lines)) start r (start_good d) runs in
-        let so_far : lines_so_far r ≡ map words_of (take i lines) = went.1 ∙ ap (λ (l : List (List (List ℕ))). l ++ map words_of (take i lines)) start_lines in
+        let went = run_goes d (map tokens_of (take i lines)) start r (start_good d) runs in
+        let so_far : lines_so_far r ≡ map tokens_of (take i lines) = went.1 ∙ ap (λ (l : List (List (List ℕ))). l ++ map tokens_of (take i lines)) start_lines in
         record {
           before = i;
           number_is = refl;

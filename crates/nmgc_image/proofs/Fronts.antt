@@ -1,6 +1,6 @@
 -- Lines are taken while every name counts as declared. If each name that they mention is declared, the same lines are taken
 -- in the end.
-use Rattle.nmgc_image.proofs.Vocabulary.{◌≡◌, ◌≤◌, ◌-◌, ℕ, List, [], ◌∷◌, ◌++◌, map, length, take, drop, refl, sym, ap, subst, ◌∙◌, arith, Bool, true, false, cond, not, codes, eqb, Option, Some, None, ◌&&◌, AllByRecursion, list_all, flat_map, bytes_eq, and_parts, and_from, false≢true, flat_map-append, append-nil, take-append-drop, recursion_from_All, none-some, same_Some, REGISTERS, MAKERS, Name, Value, Nil, Number, Ref, shared_name, held_by, ◌>>=◌, number_at, value_at, bind_some, guard_some, Entry, Reader, first_words, mutator_lines, entry_words, last_words, words_of, cut, is_declared, begun, is_open, is_full, first_at, mutator_at, is_above, is_nil, register_at, queue_at, is_after, is_owned, entry_at, next_at, end_at, line_at, start, run, key_of, key_in, keys_in, keys_of, keys_beside, has_key, HaveSame, FindsDeclared, AreTaken, AreRead, AreMentionsIn}
+use Rattle.nmgc_image.proofs.Vocabulary.{◌≡◌, ◌≤◌, ◌-◌, ℕ, List, [], ◌∷◌, ◌++◌, map, length, take, drop, refl, sym, ap, subst, ◌∙◌, arith, Bool, true, false, cond, not, codes, eqb, Option, Some, None, ◌&&◌, AllByRecursion, list_all, flat_map, bytes_eq, and_parts, and_from, false≢true, flat_map-append, append-nil, take-append-drop, recursion_from_All, none-some, same_Some, REGISTERS, MAKERS, Name, Value, Nil, Number, Ref, shared_name, held_by, ◌>>=◌, number_at, value_at, bind_some, guard_some, Entry, Reader, first_words, mutator_lines, entry_words, last_words, tokens_of, cut, is_declared, begun, is_open, is_full, first_at, mutator_at, is_above, is_nil, register_at, queue_at, is_after, is_owned, entry_at, next_at, end_at, line_at, start, run, key_of, key_in, keys_in, keys_of, keys_beside, has_key, HaveSame, FindsDeclared, AreTaken, AreRead, AreMentionsIn}
 use Rattle.nmgc_image.proofs.{NodeLaws.IsSpellable, NodeLaws.line_again, Machine.run_step, Taken.spellable, Taken.front_runs, Lines.IsGood, Lines.first_part, Lines.last_part, Lines.lines_so_far, Lines.start_good, Lines.start_lines, Lines.run_goes, Lines.good_part, FirstBad.rec_append, FirstBad.IsOther, FirstBad.other_first, FirstBad.mutators_other, FirstBad.other_last, Keys.keys_find, Keys.finds_same}
 
 guard_from : {A : Type 0} (b : Bool) (o : Option A) (y : A) → b ≡ true → o ≡ Some y → cond b o None ≡ Some y
@@ -138,16 +138,16 @@ module _ (d e : Name → Bool) (all : (name : Name) → e name ≡ true) where
           within = t.within;
           lines_are = t.lines_are;
           rest_is = t.rest_is;
-          runs = known_runs (map words_of (take t.before (cut bytes).lines)) r t.runs known;
+          runs = known_runs (map tokens_of (take t.before (cut bytes).lines)) r t.runs known;
         };
-        stuck = λ line more is. none_below d e (λ name h. all name) r (words_of line) (line_at d r (words_of line)) refl (read.stuck line more is);
+        stuck = λ line more is. none_below d e (λ name h. all name) r (tokens_of line) (line_at d r (tokens_of line)) refl (read.stuck line more is);
       }
 
 -- WHICH NAMES HAVE NODE LINES
 
-keys_split : (lines : List (List ℕ)) → keys_of lines ≡ flat_map keys_in (map words_of lines)
+keys_split : (lines : List (List ℕ)) → keys_of lines ≡ flat_map keys_in (map tokens_of lines)
 keys_split [] = refl
-keys_split (line ∷ lines) = ap (λ (l : List ℕ). keys_in (words_of line) ++ l) (keys_split lines)
+keys_split (line ∷ lines) = ap (λ (l : List ℕ). keys_in (tokens_of line) ++ l) (keys_split lines)
 
 no_keys : (lines : List (List (List ℕ))) → AllByRecursion IsOther lines → flat_map keys_in lines ≡ []
 no_keys [] h = refl
@@ -184,10 +184,10 @@ module _ (d : Name → Bool) where
     taken_keys =
         let lines = (cut bytes).lines in
         let front : List (List ℕ) = take t.before lines in
-        let went = run_goes d (map words_of front) start r (start_good d) t.runs in
-        let so_far : lines_so_far r ≡ map words_of front = went.1 ∙ ap (λ (l : List (List (List ℕ))). l ++ map words_of front) start_lines in
+        let went = run_goes d (map tokens_of front) start r (start_good d) t.runs in
+        let so_far : lines_so_far r ≡ map tokens_of front = went.1 ∙ ap (λ (l : List (List (List ℕ))). l ++ map tokens_of front) start_lines in
         let ours : keys_of front ≡ map (λ (entry : Entry). key_of entry.name) r.nodes = cc (keys_split front, so_far, so_far_keys r went.0) in
-        cc (take-append-drop t.before lines, flat_map-append (λ (line : List ℕ). keys_in (words_of line)) front (drop t.before lines), ours, t.lines_are)
+        cc (take-append-drop t.before lines, flat_map-append (λ (line : List ℕ). keys_in (tokens_of line)) front (drop t.before lines), ours, t.lines_are)
 
     pub taken_find : (keys : List ℕ) → HaveSame keys (keys_beside r.nodes (cut rest).lines) → FindsDeclared (has_key keys) (cut bytes).lines
     taken_find keys same =

@@ -1,6 +1,7 @@
 -- A sorted list of keys decides which names have node lines.
-use Rattle.nmgc_image.proofs.Vocabulary.{◌≡◌, ◌≤◌, ◌<◌, ℕ, zero, suc, List, [], ◌∷◌, length, map, get_or, refl, sym, ap, subst, ◌∙◌, arith, inl, inr, Bool, true, Option, Some, None, Result, Ok, Err, eqb, slice_get, All, Contains, MatchResult, list_any, is_ok, cases_Bool, cases_lt, eq-eqb, eqb-true, none-some, same_Some, slice_get_within, get_or_from_slice_get, list_any_at, All-contains, recursion_from_All, All-from_recursion, Contains-from_any, Name, same_name, held_by, contains_at, place_of, nothing_in, contains_flat, flat_contains, item_map, map_item, IsName, IsValue, Entry, IsTestOf, spaced, entry_words, words_of, IsDeclared, node_line_at, key_of, has_key, key_in, keys_in, keys_of, FindsDeclared}
-use Rattle.nmgc_image.proofs.{NodeLaws.IsSpellable, NodeLaws.line_takes, NodeLaws.line_again, LineLaws.spaced-words_of, LineLaws.words_of-line, LineLaws.entry_line}
+use Rattle.nmgc_image.proofs.Vocabulary.{◌≡◌, ◌≤◌, ◌<◌, ℕ, zero, suc, List, [], ◌∷◌, length, map, get_or, refl, sym, ap, subst, ◌∙◌, arith, inl, inr, Bool, true, Option, Some, None, Result, Ok, Err, eqb, slice_get, All, Contains, MatchResult, list_any, is_ok, cases_Bool, cases_lt, eq-eqb, eqb-true, none-some, same_Some, slice_get_within, get_or_from_slice_get, list_any_at, All-contains, recursion_from_All, All-from_recursion, Contains-from_any, Name, same_name, held_by, contains_at, place_of, nothing_in, contains_flat, flat_contains, item_map, map_item, IsName, IsValue, Entry, IsTestOf, spaced, entry_words, tokens_of, IsDeclared, node_line_at, key_of, has_key, key_in, keys_in, keys_of, FindsDeclared}
+use Rattle.nmgc_io.specs.laws.Parts.{spaced-tokens_of}
+use Rattle.nmgc_image.proofs.{NodeLaws.IsSpellable, NodeLaws.line_takes, NodeLaws.line_again, LineLaws.tokens_of-line, LineLaws.entry_line}
 
 -- a test that finds a key
 pub any_has : (keys : List ℕ) (k : ℕ) → list_any (λ key. eqb key k) keys ≡ true → Contains keys k
@@ -50,10 +51,10 @@ key_at (Some entry) key c = let p = place_of (key_of entry.name ∷ []) key c in
 module _ (lines : List (List ℕ)) where
   sound : (name : Name) → IsName name → has_key (keys_of lines) name ≡ true → IsDeclared lines name
   sound name valid has =
-      let line = flat_contains (λ line. keys_in (words_of line)) lines (key_of name) (any_has (keys_of lines) (key_of name) has) in
-      let entry = key_at (node_line_at (words_of line.0)) (key_of name) line.2 in
-      let takes = line_takes (words_of line.0) entry.0 entry.1 in
-      let text : line.0 ≡ spaced (entry_words entry.0) = sym (spaced-words_of line.0) ∙ ap spaced takes.0 in
+      let line = flat_contains (λ line. keys_in (tokens_of line)) lines (key_of name) (any_has (keys_of lines) (key_of name) has) in
+      let entry = key_at (node_line_at (tokens_of line.0)) (key_of name) line.2 in
+      let takes = line_takes (tokens_of line.0) entry.0 entry.1 in
+      let text : line.0 ≡ spaced (entry_words entry.0) = sym (spaced-tokens_of line.0) ∙ ap spaced takes.0 in
       let is = takes.1 in (
         entry.0,
         record { name = is.0; node = is.1; values = All-from_recursion IsValue (held_by entry.0.node) is.2 },
@@ -66,11 +67,11 @@ module _ (lines : List (List ℕ)) where
       let entry : Entry = h.0 in
       let is : IsSpellable entry = (h.1.name, h.1.node, recursion_from_All IsValue (held_by entry.node) h.1.values) in
       let line : List ℕ = spaced (entry_words entry) in
-      let reads : node_line_at (words_of line) ≡ Some entry = ap node_line_at (words_of-line (entry_words entry) (entry_line entry is)) ∙ line_again entry is in
-      let one : Contains (keys_in (words_of line)) (key_of entry.name) =
+      let reads : node_line_at (tokens_of line) ≡ Some entry = ap node_line_at (tokens_of-line (entry_words entry) (entry_line entry is)) ∙ line_again entry is in
+      let one : Contains (keys_in (tokens_of line)) (key_of entry.name) =
       rw reads (contains_at (key_of entry.name ∷
       []) 0 (key_of entry.name) refl) in
-      let all : Contains (keys_of lines) (key_of entry.name) = contains_flat (λ l. keys_in (words_of l)) lines line (key_of entry.name) h.3 one in
+      let all : Contains (keys_of lines) (key_of entry.name) = contains_flat (λ l. keys_in (tokens_of l)) lines line (key_of entry.name) h.3 one in
       has_any (keys_of lines) (key_of name) (subst (λ (n : Name). Contains (keys_of lines) (key_of n)) h.2 all)
 
   pub keys_find : FindsDeclared (has_key (keys_of lines)) lines

@@ -1,6 +1,7 @@
 -- A line read in one pass is the text of an object, and its tokens are read as this object.
-use Rattle.nmgc_image.proofs.Vocabulary.{◌≡◌, ◌≢◌, ◌<◌, ◌+◌, ◌*◌, ◌/◌, ◌%◌, ◌^◌, ℕ, List, [], ◌∷◌, ◌++◌, map, length, refl, sym, ap, subst, ◌∙◌, arith, Bool, Some, decimal, codes, append_assoc, ne_eqb, decimal_digit, decimal_step, length-append, map_push, recursion_from_All, All-from_recursion, SHARED_MAKER, Name, Value, held_by, name_text, value_text, IsValue, Entry, Reader, LineFault, Lines, IsWritable, IsPlain, after_spaces, spaced, entry_words, words_of, Cut, cut, object_at, next_at, line_at, Refuses, IsStep, Halts}
-use Rattle.nmgc_image.proofs.{Cutting.cut_first, LineLaws.words_of-line, LineLaws.entry_line, LineLaws.IsLine, LineLaws.made_lines, NodeLaws.IsSpellable, NodeLaws.entry_again, Prints.spaced_after, Steps.line_step, Steps.line_fails}
+use Rattle.nmgc_image.proofs.Vocabulary.{◌≡◌, ◌≢◌, ◌<◌, ◌+◌, ◌*◌, ◌/◌, ◌%◌, ◌^◌, ℕ, List, [], ◌∷◌, ◌++◌, map, length, refl, sym, ap, subst, ◌∙◌, arith, Bool, Some, decimal, codes, append_assoc, ne_eqb, decimal_digit, decimal_step, length-append, map_push, recursion_from_All, All-from_recursion, SHARED_MAKER, Name, Value, held_by, name_text, value_text, IsValue, Entry, Reader, LineFault, Lines, IsWritable, IsPlain, after_spaces, spaced, entry_words, tokens_of, Cut, cut, object_at, next_at, line_at, Refuses, IsStep, Halts}
+use Rattle.nmgc_io.specs.laws.Parts.{spaced_after}
+use Rattle.nmgc_image.proofs.{Cutting.cut_first, LineLaws.tokens_of-line, LineLaws.entry_line, LineLaws.IsLine, LineLaws.made_lines, NodeLaws.IsSpellable, NodeLaws.entry_again, Steps.line_step, Steps.line_fails}
 
 -- NUMBERS AND NAMES
 
@@ -70,8 +71,8 @@ unfolding line_at next_at
 line_is d r entry spelt = rw (entry_again entry spelt) refl
 
 module _ (old new : Lines) (entry : Entry) (after : List ℕ) (plain : IsPlain old.rest.now entry after) where
-  plain_words : words_of (spaced (entry_words entry)) ≡ entry_words entry
-  plain_words = words_of-line (entry_words entry) (entry_line entry (spelt_of entry plain.writable))
+  plain_words : tokens_of (spaced (entry_words entry)) ≡ entry_words entry
+  plain_words = tokens_of-line (entry_words entry) (entry_line entry (spelt_of entry plain.writable))
 
   plain_cut : cut old.rest.now ≡ record { lines = spaced (entry_words entry) ∷ (cut after).lines; rest = (cut after).rest }
   plain_cut =

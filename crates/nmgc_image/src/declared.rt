@@ -10,7 +10,8 @@ ghost use Rattle.std.specs.List.Sorted.{IsNonDecreasing};
 use crate::LineFault;
 use crate::image::Entry;
 use crate::nodes::node_line;
-use crate::text::{cut_words, next_line};
+use crate::text::next_line;
+use nmgc_io::cut_tokens;
 use nmgc_limits::MAKERS;
 use nmgc_lists::NoMemory;
 use nmgc_world_spec::Name;
@@ -107,21 +108,21 @@ fn keys_of(alloc: Global, nodes: &[Entry]) -> Result<Vec<u64>, NoMemory>
 fn push_keys(alloc: Global, keys: &mut Vec<u64>, bytes: &[u8]) -> Result<(), NoMemory>
     ensures { OnOk result (keys.new.items ≡ keys.old.items ++ all_keys (cut bytes.now).lines) }
 {
-    let mut words = Vec::new(alloc);
+    let mut tokens = Vec::new(alloc);
     let mut rest = bytes;
     while let Some((line, after)) = next_line(rest) {
-        cut_words(&mut words, line)?;
-        push_key(alloc, keys, &words)?;
+        cut_tokens(&mut tokens, line)?;
+        push_key(alloc, keys, &tokens)?;
         rest = after;
     }
     Ok(())
 }
 
 // Appends the number of a line's name, if the line is a node line.
-fn push_key(alloc: Global, keys: &mut Vec<u64>, words: &[&[u8]]) -> Result<(), NoMemory>
-    ensures { OnOk result (keys.new.items ≡ keys.old.items ++ keys_in (map (λ w. w.now) words.now)) }
+fn push_key(alloc: Global, keys: &mut Vec<u64>, tokens: &[&[u8]]) -> Result<(), NoMemory>
+    ensures { OnOk result (keys.new.items ≡ keys.old.items ++ keys_in (map (λ w. w.now) tokens.now)) }
 {
-    match node_line(alloc, words) {
+    match node_line(alloc, tokens) {
         Ok(entry) => {
             keys.push(key(entry.name))?;
             Ok(())

@@ -9,7 +9,8 @@ use crate::image::Entry;
 use crate::known::Known;
 use crate::plain::Cursor;
 use crate::reader::Reader;
-use crate::text::{Lines, cut_words, next_line};
+use crate::text::{Lines, next_line};
+use nmgc_io::cut_tokens;
 use nmgc_lists::NoMemory;
 use std::alloc::Global;
 
@@ -24,9 +25,9 @@ pub(crate) fn read_lines(
     ensures { IfOk result (λ reader. AreRead (test_of known.now) lines.old.rest.now reader lines.new.number lines.new.rest.now) }
 {
     let mut reader = Reader::new(alloc);
-    let mut words = Vec::new(alloc);
+    let mut tokens = Vec::new(alloc);
     'line: loop {
-        match take_next(alloc, known, lines, &mut words, &mut reader) {
+        match take_next(alloc, known, lines, &mut tokens, &mut reader) {
             Ok(()) => {}
             Err(LineFault::Bad) => return Ok(reader),
             Err(LineFault::NoMemory) => return Err(NoMemory),
@@ -39,7 +40,7 @@ fn take_next<'a>(
     alloc: Global,
     known: &Known,
     lines: &mut Lines<'a>,
-    words: &mut Vec<&'a [u8]>,
+    tokens: &mut Vec<&'a [u8]>,
     reader: &mut Reader,
 ) -> Result<(), LineFault>
     ensures { Advances (test_of known.now) result reader.old reader.new lines.old lines.new }
@@ -48,7 +49,7 @@ fn take_next<'a>(
     match cursor.entry(alloc) {
         Ok(entry) => take_plain(known, lines, reader, entry, cursor.rest),
         Err(LineFault::NoMemory) => Err(LineFault::NoMemory),
-        Err(LineFault::Bad) => take_words(alloc, known, lines, words, reader),
+        Err(LineFault::Bad) => take_by_tokens(alloc, known, lines, tokens, reader),
     }
 }
 
@@ -69,11 +70,11 @@ fn take_plain<'a>(
 }
 
 // Takes the next line by its tokens.
-fn take_words<'a>(
+fn take_by_tokens<'a>(
     alloc: Global,
     known: &Known,
     lines: &mut Lines<'a>,
-    words: &mut Vec<&'a [u8]>,
+    tokens: &mut Vec<&'a [u8]>,
     reader: &mut Reader,
 ) -> Result<(), LineFault>
     ensures { Advances (test_of known.now) result reader.old reader.new lines.old lines.new }
@@ -81,8 +82,8 @@ fn take_words<'a>(
     let Some((line, after)) = next_line(lines.rest) else {
         return Err(LineFault::Bad);
     };
-    cut_words(words, line)?;
-    reader.take_line(alloc, known, words)?;
+    cut_tokens(tokens, line)?;
+    reader.take_line(alloc, known, tokens)?;
     lines.pass(after);
     Ok(())
 }

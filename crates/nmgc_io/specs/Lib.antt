@@ -1,4 +1,5 @@
 pub mod Counts
 pub mod Memory
 pub mod Streams
+pub mod Text
 pub mod laws

@@ -9,7 +9,8 @@
 //! - `memory_source`, `memory_sink`: both over memory, with faults at the caller's choice.
 //! - `standard`: both over any stream of the standard library, and so over the standard streams.
 //! - `transfer`: `read_all` and `write_all`.
-//! - `numbers`: decimal text of numbers, written and read. `cutting`: bytes cut at a separator, for lines and tokens.
+//! - `numbers`: decimal text of numbers, written and read. `cutting`: bytes cut at a separator.
+//! - `tokens`: a text cut into lines, and a line into tokens.
 //!
 //! It depends on `nmgc_lists` only for `NoMemory`. Every crate that reads or writes a text depends on it: scripts, journals,
 //! images, reports, and the programs.
@@ -23,6 +24,7 @@ pub mod numbers;
 pub mod sink;
 pub mod source;
 pub mod standard;
+mod tokens;
 pub mod transfer;
 
 pub use cutting::{cut, cut_within};
@@ -33,4 +35,5 @@ pub use numbers::{push_number, read_number};
 pub use sink::Sink;
 pub use source::Source;
 pub use standard::{ReadSource, StdSink, StdSource, WriteSink};
+pub use tokens::{cut_tokens, cut_tokens_within, is_blank_or_comment, split_line};
 pub use transfer::{read_all, write_all};

@@ -1,5 +1,5 @@
 -- Reading entries in order, as a loop does.
-use Rattle.nmgc_script.proofs.Vocabulary.{◌≡◌, ℕ, ◌+◌, ◌<◌, List, [], ◌∷◌, ◌++◌, Result, Ok, Err, IfOk, refl, ap, sym, ◌∙◌, append_assoc, append-nil, Command, Cause, LineFault, ScriptFault, Config, Version, Entry, words_of, ◌>>=◌, Gives, GivesAt, FailsAt, placed, at_line, section_at, entry_at, with_entry, rest_at, programs_at, threads_at}
+use Rattle.nmgc_script.proofs.Vocabulary.{◌≡◌, ℕ, ◌+◌, ◌<◌, List, [], ◌∷◌, ◌++◌, Result, Ok, Err, IfOk, refl, ap, sym, ◌∙◌, append_assoc, append-nil, Command, Cause, LineFault, ScriptFault, Config, Version, Entry, tokens_of, ◌>>=◌, Gives, GivesAt, FailsAt, placed, at_line, section_at, entry_at, with_entry, rest_at, programs_at, threads_at}
 use Rattle.nmgc_script.specs.declared.fault.Cause.TheVariants as cause
 use Rattle.nmgc_script.specs.declared.fault.LineFault.TheVariants as fault
 use Rattle.nmgc_script.specs.declared.fault.ScriptFault.TheVariants as script_fault
@@ -37,17 +37,17 @@ regroup_order c threads program (Err e) = refl
 module _ (v : Version) (h : Config) (n : ℕ) (threads : List (List Command)) (program : List Command) (before : List (ℕ × List ℕ)) (line : ℕ ×
     List ℕ) (lines : List (ℕ × List ℕ)) (total : Result (List (List Command)) (ℕ × Cause)) (split : before ≡ line ∷
     lines) (so_far : with_before threads program (rest_at v h n before) ≡ total) where
-  pub begins : at_line line.0 (entry_at v h n (words_of line.1)) ≡ Ok entry.Section →
+  pub begins : at_line line.0 (entry_at v h n (tokens_of line.1)) ≡ Ok entry.Section →
       with_before (threads ++ program ∷ []) [] (rest_at v h (n + 1) lines) ≡ total
   unfolding rest_at
   begins e = sym (regroup_section threads program (rest_at v h (n + 1) lines)) ∙ (rw (split, e) at so_far)
 
-  pub goes_on : (c : Command) → at_line line.0 (entry_at v h n (words_of line.1)) ≡ Ok (entry.Order c) →
+  pub goes_on : (c : Command) → at_line line.0 (entry_at v h n (tokens_of line.1)) ≡ Ok (entry.Order c) →
       with_before threads (program ++ c ∷ []) (rest_at v h n lines) ≡ total
   unfolding rest_at
   goes_on c e = sym (regroup_order c threads program (rest_at v h n lines)) ∙ (rw (split, e) at so_far)
 
-  pub fails : (e : ScriptFault) → FailsAt e (at_line line.0 (entry_at v h n (words_of line.1))) → FailsAt e total
+  pub fails : (e : ScriptFault) → FailsAt e (at_line line.0 (entry_at v h n (tokens_of line.1))) → FailsAt e total
   unfolding rest_at
   fails script_fault.NoMemory f = tt
   fails (script_fault.Bad l c) f = sym (rw (split, f) at so_far)
@@ -61,7 +61,7 @@ is_done v h n threads program before total none so_far = sym (rw (none, append-n
 -- the result of a line's tokens, with the line's number
 pub line_read : {X : Type 0} (reads : List (List ℕ) →
     Result X Cause) (number : ℕ) (line : List ℕ) (words : List (List ℕ)) (given : Result X LineFault) (out : Result X ScriptFault) →
-    words ≡ words_of line → Gives given (reads words) → out ≡ placed number given → GivesAt (λ x. x) out (at_line number (reads (words_of line)))
+    words ≡ tokens_of line → Gives given (reads words) → out ≡ placed number given → GivesAt (λ x. x) out (at_line number (reads (tokens_of line)))
 line_read reads number line words given out same gives is = rw (is, ← same) (gives_at number given (reads words) gives)
 
 pub ok_read : {X : Type 0} (out : Result X ScriptFault) (read : Result X (ℕ × Cause)) (x : X) → out ≡ Ok x → GivesAt (λ x. x) out read → read ≡ Ok x
@@ -89,11 +89,11 @@ unfolding threads_at
 no_section end number v h before none is = rw (none, is) refl
 
 module _ (end : ℕ) (v : Version) (h : Config) (before : List (ℕ × List ℕ)) (line : ℕ × List ℕ) (lines : List (ℕ × List ℕ)) (split : before ≡ line ∷ lines) where
-  pub first_fails : (e : ScriptFault) → FailsAt e (at_line line.0 (section_at v h 0 (words_of line.1))) → FailsAt e (threads_at v end h before)
+  pub first_fails : (e : ScriptFault) → FailsAt e (at_line line.0 (section_at v h 0 (tokens_of line.1))) → FailsAt e (threads_at v end h before)
   unfolding threads_at
-  first_fails e f = rw split (fails_at_bind (at_line line.0 (section_at v h 0 (words_of line.1))) _ e f)
+  first_fails e f = rw split (fails_at_bind (at_line line.0 (section_at v h 0 (tokens_of line.1))) _ e f)
 
-  pub first_begins : (x : Entry) (out : Result (List (List Command)) ScriptFault) → at_line line.0 (section_at v h 0 (words_of line.1)) ≡ Ok x →
+  pub first_begins : (x : Entry) (out : Result (List (List Command)) ScriptFault) → at_line line.0 (section_at v h 0 (tokens_of line.1)) ≡ Ok x →
       GivesAt (λ t. t) out (programs_at v h lines) → GivesAt (λ t. t) out (threads_at v end h before)
   unfolding threads_at
   first_begins x out e g = rw (split, e) g

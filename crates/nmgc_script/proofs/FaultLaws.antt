@@ -2,7 +2,8 @@
 use Rattle.std.proofs.{Common.◌≡◌, Common.◌≢◌, Common.◌≤◌, Common.◌<◌, Common.◌^◌, Common.◌+◌, Common.ℕ, Common.List, Common.[], Common.◌∷◌, Common.length, Common.refl, Common.sym, Common.ap, Common.subst, Common.◌∙◌, Common.arith, Common.inl, Common.inr, Common.Bool, Common.true, Common.false, Common.cond, Common.codes, Common.leb, Common.eqb, Common.Result, Common.Ok, Common.Err, Common.IfErr, lemmas.Bool.leb-false, lemmas.Bool.eq-eqb, lemmas.Bool.eqb-true, lemmas.Slice.Eq.bytes_eq-Decides}
 use Rattle.std.specs.Str.{bytes_eq}
 use Rattle.nmgc_world_spec.specs.{declared.command.Command.Command, Command.HasRegistersBelow, Command.HasNumbers, Command.words_made}
-use Rattle.nmgc_script.specs.{declared.fault.Cause.Cause, declared.fault.ScriptFault.ScriptFault, declared.script.Config.Config, declared.script.Script.Script, declared.version.Version.Version, declared.sections.Entry.Entry, declared.verbs.Verb.Verb, laws.Versions.IsUsable, laws.Versions.usable_version, laws.Versions.registers_wider, Limits.IsVersion, Limits.total_words, Limits.version_1, Limits.version_2, Limits.version_3, Spelling.spaced, Spelling.verb_name, Spelling.command_words, Spelling.heap_words, Spelling.section_words, Spelling.version_words, Text.words_of, Text.kept_lines, Text.end_of, Faults.first_of, Faults.HasArity, Faults.HasToBegin, Faults.HasFault, Faults.order_of, Faults.IsFirstFault, Faults.IsFaultless, Faults.begun_with, Faults.IsFaultInRest, Faults.IsFaultFromHeap, Faults.IsFaultOfText, Faults.IsFaultOf, Reading.◌>>=◌, Reading.or_cause, Reading.verb_at, Reading.operands_at, Reading.sized, Reading.command_at, Reading.thread_at, Reading.section_at, Reading.is_section, Reading.entry_at, Reading.begun_after, Reading.with_entry, Reading.rest_at, Reading.programs_at, Reading.threads_at, Reading.version_at, Reading.heap_words_at, Reading.numbers_at, Reading.heap_at, Reading.script_at, Reading.at_line, Reading.GivesAt, laws.Lines.spaced-words_of, laws.Lines.words_of-line, laws.Lines.heap_line_words, laws.Lines.first_line, laws.Lines.second_line, laws.Lines.third_line}
+use Rattle.nmgc_io.specs.{Text.tokens_of, Text.spaced, laws.Parts.spaced-tokens_of}
+use Rattle.nmgc_script.specs.{declared.fault.Cause.Cause, declared.fault.ScriptFault.ScriptFault, declared.script.Config.Config, declared.script.Script.Script, declared.version.Version.Version, declared.sections.Entry.Entry, declared.verbs.Verb.Verb, laws.Versions.IsUsable, laws.Versions.usable_version, laws.Versions.registers_wider, Limits.IsVersion, Limits.total_words, Limits.version_1, Limits.version_2, Spelling.verb_name, Spelling.command_words, Spelling.heap_words, Spelling.section_words, Spelling.version_words, Text.kept_lines, Text.end_of, Faults.first_of, Faults.HasArity, Faults.HasToBegin, Faults.HasFault, Faults.order_of, Faults.IsFirstFault, Faults.IsFaultless, Faults.begun_with, Faults.IsFaultInRest, Faults.IsFaultFromHeap, Faults.IsFaultOfText, Faults.IsFaultOf, Reading.◌>>=◌, Reading.or_cause, Reading.verb_at, Reading.operands_at, Reading.sized, Reading.command_at, Reading.thread_at, Reading.section_at, Reading.is_section, Reading.entry_at, Reading.begun_after, Reading.with_entry, Reading.rest_at, Reading.programs_at, Reading.threads_at, Reading.version_at, Reading.heap_words_at, Reading.numbers_at, Reading.heap_at, Reading.script_at, Reading.at_line, Reading.GivesAt, laws.Lines.tokens_of-line, laws.Lines.heap_line_words, laws.Lines.first_line, laws.Lines.second_line, Limits.version_3, laws.Lines.third_line}
 use Rattle.nmgc_script.specs.declared.fault.Cause.TheVariants as cause
 use Rattle.nmgc_script.specs.declared.fault.ScriptFault.TheVariants as script_fault
 use Rattle.nmgc_script.specs.declared.sections.Entry.TheVariants as entry
@@ -369,7 +370,7 @@ rest_fault : (ver : Version) (usable : IsUsable ver) (h : Config) (end n : ℕ) 
 unfolding rest_at
 rest_fault ver usable h end n [] number c some bad = absurd cc
 rest_fault ver usable h end n (line ∷ lines) number c some bad =
-    let words = words_of line.1 in
+    let words = tokens_of line.1 in
     elim (result_cases (at_line line.0 (entry_at ver h n words))) [
       | inr p ↦
           let stops : rest_at ver h n (line ∷ lines) ≡ Err p.0 = stops_at (at_line line.0 (entry_at ver h n words)) _ p.0 p.1 in
@@ -392,7 +393,7 @@ threads_fault ver usable h end [] number c bad =
     let same : ◌≡◌ {A = ℕ × Cause} (end, cause.Thread) (number, c) = err_is {A = List (List Command)} (end, cause.Thread) (number, c) bad in
     (refl, sym (ap (λ (p : ℕ × Cause). p.0) same), sym (ap (λ (p : ℕ × Cause). p.1) same))
 threads_fault ver usable h end (line ∷ lines) number c bad =
-    let words = words_of line.1 in
+    let words = tokens_of line.1 in
     elim (result_cases (at_line line.0 (section_at ver h 0 words))) [
       | inr p ↦
           let stops : threads_at ver end h (line ∷ lines) ≡ Err p.0 = stops_at (at_line line.0 (section_at ver h 0 words)) _ p.0 p.1 in
@@ -415,7 +416,7 @@ heap_fault ver usable end [] number c bad =
     let same : ◌≡◌ {A = ℕ × Cause} (end, cause.Heap) (number, c) = err_is {A = List (List Command)} (end, cause.Heap) (number, c) bad in
     (sym (ap (λ (p : ℕ × Cause). p.0) same), sym (ap (λ (p : ℕ × Cause). p.1) same))
 heap_fault ver usable end (line ∷ lines) number c bad =
-    let words = words_of line.1 in
+    let words = tokens_of line.1 in
     let few : ver.segments < 2 ^ 64 = omega (arith, usable.segments) in
     elim (result_cases (heap_words_at ver words)) [
       | inr p ↦
@@ -425,13 +426,13 @@ heap_fault ver usable end (line ∷ lines) number c bad =
           inl (
             sym (ap (λ (q : ℕ × Cause). q.0) same),
             sym (ap (λ (q : ℕ × Cause). q.1) same) ∙ is_heap,
-            λ h fits is. two_results (heap_words_at ver words) h p.0 (ap (λ (l : List ℕ). heap_words_at ver (words_of l)) is ∙
-                ap (heap_words_at ver) (words_of-line (heap_words h) (heap_line_words ver.segments few h fits)) ∙ heap_again ver few h fits) p.1,
+            λ h fits is. two_results (heap_words_at ver words) h p.0 (ap (λ (l : List ℕ). heap_words_at ver (tokens_of l)) is ∙
+                ap (heap_words_at ver) (tokens_of-line (heap_words h) (heap_line_words ver.segments few h fits)) ∙ heap_again ver few h fits) p.1,
           )
       | inl h ↦
           let t = heap_takes ver few words h.0 h.1 in
           let goes : (heap_at ver end (line ∷ lines) >>= λ q. threads_at ver end q.0 q.1) ≡ threads_at ver end h.0 lines = rw h.1 refl in
-          inr (h.0, t.1, sym (spaced-words_of line.1) ∙ ap spaced t.0, threads_fault ver usable h.0 end lines number c (sym goes ∙ bad))
+          inr (h.0, t.1, sym (spaced-tokens_of line.1) ∙ ap spaced t.0, threads_fault ver usable h.0 end lines number c (sym goes ∙ bad))
     ]
 
 err_inner : {A B C E : Type 0} (r : Result A E) (f : A → Result B E) (g : A → B → C) (e : E) → (r >>= λ a. f a >>= λ b. Ok (g a b)) ≡ Err e → (r >>= f) ≡ Err e

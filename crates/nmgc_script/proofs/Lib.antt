@@ -3,10 +3,10 @@ pub mod BenchLaws
 pub mod CauseLaws
 pub mod CommandLaws
 pub mod ConfigLaws
-pub mod Cut
 pub mod Each
 pub mod Entries
 pub mod FaultLaws
+pub mod Kept
 pub mod OneFault
 pub mod PrintLaws
 pub mod ScriptLaws

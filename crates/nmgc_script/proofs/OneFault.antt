@@ -1,7 +1,8 @@
 -- A text spells a script or has one first bad line with one first cause, and never both.
 use Rattle.std.proofs.{Common.◌≡◌, Common.◌≢◌, Common.◌<◌, Common.◌^◌, Common.ℕ, Common.zero, Common.suc, Common.List, Common.[], Common.◌∷◌, Common.refl, Common.sym, Common.ap, Common.subst, Common.◌∙◌, Common.arith, Common.inl, Common.inr, Common.codes, Common.decimal, Common.Ok, lemmas.Bool.cases_order, lemmas.Fmt.decimal_injective, lemmas.List.append_cancel_left}
 use Rattle.nmgc_world_spec.specs.declared.command.Command.{Command}
-use Rattle.nmgc_script.specs.{declared.fault.Cause.Cause, declared.script.Config.Config, declared.script.Script.Script, declared.version.Version.Version, laws.Versions.IsUsable, laws.Versions.usable_version, laws.Versions.version_is, Limits.FitsConfig, Limits.IsVersion, Limits.version_of, Spelling.spaced, Spelling.heap_words, Spelling.version_words, Spelling.Spells, Text.words_of, Text.kept_lines, Text.end_of, Faults.order_of, Faults.IsFirstFault, Faults.begun_with, Faults.IsFaultInRest, Faults.IsFaultFromHeap, Faults.IsFaultOfText, Reading.heap_words_at, Reading.section_at, Reading.entry_at, Reading.begun_after, Reading.at_line, Reading.rest_at, Reading.programs_at, Reading.threads_at, Reading.version_at, Reading.heap_at, Reading.script_at, laws.Lines.spaced-words_of, laws.Lines.words_of-line, laws.Lines.heap_line_words}
+use Rattle.nmgc_io.specs.{Text.tokens_of, Text.spaced, laws.Parts.spaced-tokens_of}
+use Rattle.nmgc_script.specs.{declared.fault.Cause.Cause, declared.script.Config.Config, declared.script.Script.Script, declared.version.Version.Version, laws.Versions.IsUsable, laws.Versions.usable_version, Limits.FitsConfig, Limits.IsVersion, Spelling.heap_words, Spelling.version_words, Spelling.Spells, Text.kept_lines, Text.end_of, Faults.order_of, Faults.IsFirstFault, Faults.begun_with, Faults.IsFaultInRest, Faults.IsFaultFromHeap, Faults.IsFaultOfText, Reading.heap_words_at, Reading.section_at, Reading.entry_at, Reading.begun_after, Reading.at_line, Reading.rest_at, Reading.programs_at, Reading.threads_at, Reading.version_at, Reading.heap_at, Reading.script_at, laws.Lines.tokens_of-line, laws.Lines.heap_line_words, laws.Versions.version_is, Limits.version_of}
 use Rattle.nmgc_script.specs.declared.fault.Cause.TheVariants as cause
 use Rattle.nmgc_script.proofs.{WordLaws.bind_ok, WordLaws.ok_is, ConfigLaws.heap_takes, ConfigLaws.heap_again, SectionLaws.at_line_ok, SectionLaws.section_takes, ScriptLaws.script_again, ScriptLaws.version_found, FaultLaws.entry_good, FaultLaws.section_faultless, FaultLaws.some_after}
 
@@ -46,10 +47,10 @@ Same a c b d = (a ≡ b) × (c ≡ d)
 one_rest : (ver : Version) (usable : IsUsable ver) (h : Config) (n end : ℕ) (lines : List (ℕ × List ℕ)) (a : ℕ) (c : Cause) (b : ℕ) (d : Cause) →
     IsFaultInRest ver h n end lines a c → IsFaultInRest ver h n end lines b d → Same a c b d
 one_rest ver usable h n end [] a c b d p q = (p.1 ∙ sym q.1, p.2 ∙ sym q.2)
-one_rest ver usable h n end (line ∷ lines) a c b d (inl p) (inl q) = (p.0 ∙ sym q.0, one_first ver usable h n (words_of line.1) c d p.1 q.1)
+one_rest ver usable h n end (line ∷ lines) a c b d (inl p) (inl q) = (p.0 ∙ sym q.0, one_first ver usable h n (tokens_of line.1) c d p.1 q.1)
 one_rest ver usable h n end (line ∷ lines) a c b d (inl p) (inr q) = absurd (q.0 c p.1.here)
 one_rest ver usable h n end (line ∷ lines) a c b d (inr p) (inl q) = absurd (p.0 d q.1.here)
-one_rest ver usable h n end (line ∷ lines) a c b d (inr p) (inr q) = one_rest ver usable h (begun_with n (words_of line.1)) end lines a c b d p.1 q.1
+one_rest ver usable h n end (line ∷ lines) a c b d (inr p) (inr q) = one_rest ver usable h (begun_with n (tokens_of line.1)) end lines a c b d p.1 q.1
 
 -- a heap line has one configuration
 one_config : (ver : Version) (usable : IsUsable ver) (line : List ℕ) (g h : Config) → FitsConfig ver.segments g → FitsConfig ver.segments h →
@@ -59,9 +60,9 @@ one_config ver usable line g h fg fh eg eh = ok_is {E = Cause} g h (sym (reads g
     few : ver.segments < 2 ^ 64
     few = omega (arith, usable.segments)
 
-    reads : (c : Config) → FitsConfig ver.segments c → line ≡ spaced (heap_words c) → heap_words_at ver (words_of line) ≡ Ok c
-    reads c fits is = ap (λ (l : List ℕ). heap_words_at ver (words_of l)) is ∙
-        ap (heap_words_at ver) (words_of-line (heap_words c) (heap_line_words ver.segments few c fits)) ∙ heap_again ver few c fits
+    reads : (c : Config) → FitsConfig ver.segments c → line ≡ spaced (heap_words c) → heap_words_at ver (tokens_of line) ≡ Ok c
+    reads c fits is = ap (λ (l : List ℕ). heap_words_at ver (tokens_of l)) is ∙
+        ap (heap_words_at ver) (tokens_of-line (heap_words c) (heap_line_words ver.segments few c fits)) ∙ heap_again ver few c fits
 
 one_heap : (ver : Version) (usable : IsUsable ver) (end : ℕ) (lines : List (ℕ × List ℕ)) (a : ℕ) (c : Cause) (b : ℕ) (d : Cause) →
     IsFaultFromHeap ver end lines a c → IsFaultFromHeap ver end lines b d → Same a c b d
@@ -99,7 +100,7 @@ rest_good : (ver : Version) (usable : IsUsable ver) (h : Config) (n end : ℕ) (
 unfolding rest_at
 rest_good ver usable h n end [] p a c some good t = some t.0
 rest_good ver usable h n end (line ∷ lines) p a c some good t =
-    let words = words_of line.1 in
+    let words = tokens_of line.1 in
     let b = bind_ok (at_line line.0 (entry_at ver h n words)) _ p good in
     let o = bind_ok (rest_at ver h (begun_after b.0 n) lines) _ p b.2 in
     let g = entry_good ver usable h n words b.0 some (at_line_ok line.0 (entry_at ver h n words) b.0 b.1) in
@@ -114,7 +115,7 @@ threads_good : (ver : Version) (usable : IsUsable ver) (h : Config) (end : ℕ) 
 unfolding threads_at programs_at
 threads_good ver usable h end [] threads a c good t = absurd cc
 threads_good ver usable h end (line ∷ lines) threads a c good t =
-    let words = words_of line.1 in
+    let words = tokens_of line.1 in
     let b = bind_ok (at_line line.0 (section_at ver h 0 words)) _ threads good in
     let o = bind_ok (rest_at ver h 1 lines) _ threads b.2 in
     let g = section_takes ver usable h 0 words b.0 (at_line_ok line.0 (section_at ver h 0 words) b.0 b.1) in
@@ -130,9 +131,9 @@ heap_good : (ver : Version) (usable : IsUsable ver) (end : ℕ) (lines : List (�
 unfolding heap_at
 heap_good ver usable end [] h threads a c good more t = absurd cc
 heap_good ver usable end (line ∷ lines) h threads a c good more t =
-    let b = bind_ok (at_line line.0 (heap_words_at ver (words_of line.1))) (λ config. Ok (config, lines)) h good in
-    let g = heap_takes ver (omega (arith, usable.segments)) (words_of line.1) b.0 (at_line_ok line.0 (heap_words_at ver (words_of line.1)) b.0 b.1) in
-    let is : line.1 ≡ spaced (heap_words b.0) = sym (spaced-words_of line.1) ∙ ap spaced g.0 in
+    let b = bind_ok (at_line line.0 (heap_words_at ver (tokens_of line.1))) (λ config. Ok (config, lines)) h good in
+    let g = heap_takes ver (omega (arith, usable.segments)) (tokens_of line.1) b.0 (at_line_ok line.0 (heap_words_at ver (tokens_of line.1)) b.0 b.1) in
+    let is : line.1 ≡ spaced (heap_words b.0) = sym (spaced-tokens_of line.1) ∙ ap spaced g.0 in
     let parts : (b.0, lines) ≡ h = ok_is {E = ℕ × Cause} (b.0, lines) h b.2 in
     let later : threads_at ver end b.0 lines ≡ Ok threads = rw (← parts) at more in
     elim t [

@@ -2,7 +2,8 @@
 use Rattle.std.proofs.{Common.◌≡◌, Common.◌≤◌, Common.◌^◌, Common.◌<◌, Common.◌+◌, Common.ℕ, Common.List, Common.[], Common.◌∷◌, Common.◌++◌, Common.map, Common.length, Common.refl, Common.sym, Common.ap, Common.subst, Common.◌∙◌, Common.arith, Common.inl, Common.inr, Common.Bool, Common.true, Common.false, Common.cond, Common.eqb, Common.suc, Common.Result, Common.Ok, Common.Err, Common.IfOk, Common.MatchResult, Common.codes, lemmas.Bool.Decides.eqb_tells, lemmas.List.length-map, lemmas.List.length-append, lemmas.List.Sums.sum_by-cons, lemmas.List.Elements.All-from_recursion, lemmas.List.Elements.All-weaker, lemmas.List.Elements.recursion_from_All, lemmas.Slice.Eq.bytes_eq-Decides}
 use Rattle.std.specs.{List.AllByRecursion, List.All, List.sum_by, Str.bytes_eq}
 use Rattle.nmgc_world_spec.specs.{declared.command.Command.Command, Command.Fits, Command.HasRegistersBelow}
-use Rattle.nmgc_script.specs.{declared.fault.Cause.Cause, declared.fault.ScriptFault.ScriptFault, declared.script.Config.Config, declared.script.Script.Script, declared.version.Version.Version, laws.Versions.IsUsable, laws.Versions.usable_version, laws.Versions.usable_number, laws.Versions.version_is, laws.Versions.numbered, Limits.FitsConfig, Limits.FitsScript, Limits.IsVersion, Limits.total_words, Limits.version_1, Limits.version_2, Limits.version_3, Limits.version_of, Text.lines_of, Text.words_of, Text.kept_from, Text.kept_lines, Text.end_of, Text.onto_first, Text.is_passed, Spelling.spaced, Spelling.heap_words, Spelling.section_words, Spelling.version_words, Spelling.command_words, Spelling.program_lines, Spelling.section_lines, Spelling.script_lines, Spelling.Spells, Reading.heap_words_at, Reading.section_at, Reading.rest_at, Reading.programs_at, Reading.threads_at, Reading.version_at, Reading.heap_at, Reading.script_at, Reading.at_line, Reading.GivesAt, laws.Lines.spaced-words_of, laws.Lines.words_of-line, laws.Lines.heap_line_words, laws.Lines.section_line_words, laws.Lines.first_line, laws.Lines.second_line, laws.Lines.third_line}
+use Rattle.nmgc_io.specs.{Text.lines_of, Text.tokens_of, Text.onto_first, Text.is_blank_or_comment, Text.spaced, laws.Parts.spaced-tokens_of}
+use Rattle.nmgc_script.specs.{declared.fault.Cause.Cause, declared.fault.ScriptFault.ScriptFault, declared.script.Config.Config, declared.script.Script.Script, declared.version.Version.Version, laws.Versions.IsUsable, laws.Versions.usable_version, laws.Versions.usable_number, laws.Versions.version_is, Limits.FitsConfig, Limits.FitsScript, Limits.IsVersion, Limits.total_words, Limits.version_1, Limits.version_2, Limits.version_of, Text.kept_from, Text.kept_lines, Text.end_of, Spelling.heap_words, Spelling.section_words, Spelling.version_words, Spelling.command_words, Spelling.program_lines, Spelling.section_lines, Spelling.script_lines, Spelling.Spells, Reading.heap_words_at, Reading.section_at, Reading.rest_at, Reading.programs_at, Reading.threads_at, Reading.version_at, Reading.heap_at, Reading.script_at, Reading.at_line, Reading.GivesAt, laws.Lines.tokens_of-line, laws.Lines.heap_line_words, laws.Lines.section_line_words, laws.Lines.first_line, laws.Lines.second_line, laws.Versions.numbered, Limits.version_3, laws.Lines.third_line}
 use Rattle.nmgc_script.specs.declared.fault.Cause.TheVariants as cause
 use Rattle.nmgc_script.specs.declared.fault.ScriptFault.TheVariants as script_fault
 use Rattle.nmgc_script.specs.declared.sections.Entry.TheVariants as entry
@@ -98,9 +99,9 @@ heap_at_takes : (ver : Version) (usable : IsUsable ver) (end : ℕ) (lines : Lis
 unfolding heap_at
 heap_at_takes ver usable end [] p e = absurd cc
 heap_at_takes ver usable end (line ∷ lines) p e =
-    let b = bind_ok (at_line line.0 (heap_words_at ver (words_of line.1))) (λ config. Ok (config, lines)) p e in
-    let t = heap_takes ver (omega (arith, usable.segments)) (words_of line.1) b.0 (at_line_ok line.0 (heap_words_at ver (words_of line.1)) b.0 b.1) in
-    let here : line.1 ≡ spaced (heap_words b.0) = sym (spaced-words_of line.1) ∙ ap spaced t.0 in
+    let b = bind_ok (at_line line.0 (heap_words_at ver (tokens_of line.1))) (λ config. Ok (config, lines)) p e in
+    let t = heap_takes ver (omega (arith, usable.segments)) (tokens_of line.1) b.0 (at_line_ok line.0 (heap_words_at ver (tokens_of line.1)) b.0 b.1) in
+    let here : line.1 ≡ spaced (heap_words b.0) = sym (spaced-tokens_of line.1) ∙ ap spaced t.0 in
     subst (λ (q : Config × List (ℕ × List ℕ)). (map text (line ∷ lines) ≡ spaced (heap_words q.0) ∷ map text q.1) ×
     FitsConfig ver.segments q.0) (ok_is {E = ℕ × Cause} (b.0, lines) p b.2) (ap (λ (l : List ℕ). l ∷ map text lines) here, t.1)
 
@@ -117,11 +118,11 @@ threads_takes : (ver : Version) (usable : IsUsable ver) (end : ℕ) (h : Config)
 unfolding threads_at programs_at
 threads_takes ver usable end h [] threads e = absurd cc
 threads_takes ver usable end h (line ∷ lines) threads e =
-    let b = bind_ok (at_line line.0 (section_at ver h 0 (words_of line.1))) _ threads e in
+    let b = bind_ok (at_line line.0 (section_at ver h 0 (tokens_of line.1))) _ threads e in
     let p = bind_ok (rest_at ver h 1 lines) _ threads b.2 in
-    let s = section_takes ver usable h 0 (words_of line.1) b.0 (at_line_ok line.0 (section_at ver h 0 (words_of line.1)) b.0 b.1) in
+    let s = section_takes ver usable h 0 (tokens_of line.1) b.0 (at_line_ok line.0 (section_at ver h 0 (tokens_of line.1)) b.0 b.1) in
     let r = rest_takes ver usable h 1 lines p.0 (omega (arith, usable.some_thread)) s.0.2 p.1 in
-    let here : line.1 ≡ spaced (section_words 0) = sym (spaced-words_of line.1) ∙ ap spaced s.0.0 in
+    let here : line.1 ≡ spaced (section_words 0) = sym (spaced-tokens_of line.1) ∙ ap spaced s.0.0 in
     let more : 1 + length p.0.1 ≡ length (p.0.0 ∷ p.0.1) = omega arith in
     let all : ThreadsSpelled ver h (line ∷ lines) (p.0.0 ∷ p.0.1) = record {
       lines_are = cc (here, r.lines_are);
@@ -166,9 +167,9 @@ threads_again ver usable end h [] (program ∷ programs) some few total fit e = 
 threads_again ver usable end h (line ∷ lines) (program ∷ programs) some few total fit e =
     let more : 1 + length programs ≡ length (program ∷ programs) = omega arith in
     let here : line.1 ≡ spaced (section_words 0) = cc in
-    let words : words_of line.1 ≡ section_words 0 = ap words_of here ∙ words_of-line (section_words 0) (section_line_words 0 (omega arith)) in
+    let words : tokens_of line.1 ≡ section_words 0 = ap tokens_of here ∙ tokens_of-line (section_words 0) (section_line_words 0 (omega arith)) in
     let room : total_words h 1 ≤ ver.heap_words = fewer h 1 (length (program ∷ programs)) ver.heap_words (omega (arith, more)) total in
-    let read : section_at ver h 0 (words_of line.1) ≡ Ok entry.Section = ap (section_at ver h 0) words ∙
+    let read : section_at ver h 0 (tokens_of line.1) ≡ Ok entry.Section = ap (section_at ver h 0) words ∙
     section_again ver usable h 0 (omega (arith, usable.some_thread)) room in
     let after : map text lines ≡ program_lines program ++ section_lines 1 programs = cc in
     rw (
@@ -191,10 +192,10 @@ script_again end (first ∷ second ∷ lines) s fits e =
     let is_first : first.1 ≡ spaced (version_words s.version) = cc in
     let is_second : second.1 ≡ spaced (heap_words s.config) = cc in
     let after : map text lines ≡ section_lines 0 s.threads = cc in
-    let words : words_of second.1 ≡ heap_words s.config = ap words_of is_second ∙ words_of-line (heap_words s.config) (heap_line_words ver.segments small s.config fits.config) in
+    let words : tokens_of second.1 ≡ heap_words s.config = ap tokens_of is_second ∙ tokens_of-line (heap_words s.config) (heap_line_words ver.segments small s.config fits.config) in
     let version : version_at end (first ∷ second ∷ lines) ≡ Ok (ver, second ∷ lines) =
     version_again end first (second ∷ lines) s.version fits.version is_first in
-    let config : heap_words_at ver (words_of second.1) ≡ Ok s.config = ap (heap_words_at ver) words ∙ heap_again ver small s.config fits.config in
+    let config : heap_words_at ver (tokens_of second.1) ≡ Ok s.config = ap (heap_words_at ver) words ∙ heap_again ver small s.config fits.config in
     let threads : threads_at ver end s.config lines ≡ Ok s.threads =
     threads_again ver usable end s.config lines s.threads fits.some_thread fits.threads fits.total
     (both_to (Fits s.config.words) (HasRegistersBelow ver.registers) s.threads fits.commands fits.registers) after in
@@ -243,7 +244,7 @@ unfolding kept_from
 few_kept n [] = omega arith
 few_kept n (line ∷ lines) =
     let others = few_kept (n + 1) lines in
-    either (is_passed line) (kept_from (n + 1) lines) ((n, line) ∷ kept_from (n + 1) lines) (suc (length lines)) (omega arith) (omega arith)
+    either (is_blank_or_comment line) (kept_from (n + 1) lines) ((n, line) ∷ kept_from (n + 1) lines) (suc (length lines)) (omega arith) (omega arith)
 
 few_commands : (n : ℕ) (threads : List (List Command)) → sum_by (λ program. length program) threads ≤ length (section_lines n threads)
 few_commands n [] = omega arith

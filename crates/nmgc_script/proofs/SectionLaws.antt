@@ -2,7 +2,8 @@
 use Rattle.std.proofs.{Common.◌≡◌, Common.◌≤◌, Common.◌<◌, Common.◌-◌, Common.◌+◌, Common.ℕ, Common.List, Common.[], Common.◌∷◌, Common.◌++◌, Common.map, Common.length, Common.refl, Common.sym, Common.ap, Common.subst, Common.◌∙◌, Common.arith, Common.inl, Common.inr, Common.false, Common.codes, Common.eqb, Common.leb, Common.Result, Common.Ok, Common.Err, lemmas.Bool.le-leb, lemmas.Bool.leb-true, lemmas.Bool.eq-eqb, lemmas.Bool.eqb-true, Math.Nat.mul-le-mul_right, lemmas.Slice.Eq.bytes_eq-Decides}
 use Rattle.std.specs.{List.AllByRecursion, Str.bytes_eq}
 use Rattle.nmgc_world_spec.specs.declared.command.Command.{Command}
-use Rattle.nmgc_script.specs.{declared.fault.Cause.Cause, declared.script.Config.Config, declared.verbs.Verb.Verb, declared.sections.Entry.Entry, declared.version.Version.Version, laws.Versions.IsUsable, Limits.total_words, Text.words_of, Spelling.spaced, Spelling.verb_name, Spelling.command_words, Spelling.section_words, Spelling.program_lines, Spelling.section_lines, Reading.◌>>=◌, Reading.number_at, Reading.or_cause, Reading.thread_at, Reading.section_at, Reading.is_section, Reading.entry_at, Reading.command_at, Reading.at_line, Reading.with_entry, Reading.begun_after, Reading.rest_at, laws.Lines.spaced-words_of, laws.Lines.words_of-line, laws.Lines.command_line, laws.Lines.section_line_words}
+use Rattle.nmgc_io.specs.{Text.tokens_of, Text.spaced, laws.Parts.spaced-tokens_of}
+use Rattle.nmgc_script.specs.{declared.fault.Cause.Cause, declared.script.Config.Config, declared.verbs.Verb.Verb, declared.sections.Entry.Entry, declared.version.Version.Version, laws.Versions.IsUsable, Limits.total_words, Spelling.verb_name, Spelling.command_words, Spelling.section_words, Spelling.program_lines, Spelling.section_lines, Reading.◌>>=◌, Reading.number_at, Reading.or_cause, Reading.thread_at, Reading.section_at, Reading.is_section, Reading.entry_at, Reading.command_at, Reading.at_line, Reading.with_entry, Reading.begun_after, Reading.rest_at, laws.Lines.tokens_of-line, laws.Lines.command_line, laws.Lines.section_line_words}
 use Rattle.nmgc_script.specs.declared.fault.Cause.TheVariants as cause
 use Rattle.nmgc_script.specs.declared.verbs.Verb.TheVariants as verb
 use Rattle.nmgc_script.specs.declared.sections.Entry.TheVariants as entry
@@ -138,11 +139,11 @@ pub record RestSpelled (ver : Version) (h : Config) (n : ℕ) (lines : List (ℕ
   pub total : total_words h (n + length p.1) ≤ ver.heap_words
 
 entry_more : (ver : Version) (usable : IsUsable ver) (h : Config) (n : ℕ) (line : ℕ ×
-    List ℕ) (lines : List (ℕ × List ℕ)) (e : Entry) (p : List Command × List (List Command)) → EntrySpelled ver h n (words_of line.1) e →
+    List ℕ) (lines : List (ℕ × List ℕ)) (e : Entry) (p : List Command × List (List Command)) → EntrySpelled ver h n (tokens_of line.1) e →
     RestSpelled ver h (begun_after e n) lines p → RestSpelled ver h n (line ∷ lines) (with_entry e p)
 entry_more ver usable h n line lines entry.Section p s r =
     let more : (n + 1) + length p.1 ≡ n + length (p.0 ∷ p.1) = omega arith in
-    let here : line.1 ≡ spaced (section_words n) = sym (spaced-words_of line.1) ∙ ap spaced s.0 in
+    let here : line.1 ≡ spaced (section_words n) = sym (spaced-tokens_of line.1) ∙ ap spaced s.0 in
     record {
       lines_are = cc (here, r.lines_are);
       first = tt;
@@ -151,7 +152,7 @@ entry_more ver usable h n line lines entry.Section p s r =
       total = subst (λ (k : ℕ). total_words h k ≤ ver.heap_words) more r.total;
     }
 entry_more ver usable h n line lines (entry.Order c) p s r =
-    let here : line.1 ≡ spaced (command_words c) = sym (spaced-words_of line.1) ∙ ap spaced s.0 in
+    let here : line.1 ≡ spaced (command_words c) = sym (spaced-tokens_of line.1) ∙ ap spaced s.0 in
     record {
       lines_are = cc (here, r.lines_are);
       first = (s.1, r.first);
@@ -179,10 +180,10 @@ rest_takes ver usable h n [] p few total e =
     } in
     subst (RestSpelled ver h n []) (ok_is {E = ℕ × Cause} ([], []) p e) none
 rest_takes ver usable h n (line ∷ lines) p few total e =
-    let b = bind_ok (at_line line.0 (entry_at ver h n (words_of line.1))) _ p e in
+    let b = bind_ok (at_line line.0 (entry_at ver h n (tokens_of line.1))) _ p e in
     let o = bind_ok (rest_at ver h (begun_after b.0 n) lines) _ p b.2 in
-    let spelled = entry_takes ver usable h n (words_of line.1) b.0 (at_line_ok line.0 (entry_at ver h n (words_of line.1)) b.0 b.1) in
-    let room = room_after ver usable h n (words_of line.1) b.0 spelled few total in
+    let spelled = entry_takes ver usable h n (tokens_of line.1) b.0 (at_line_ok line.0 (entry_at ver h n (tokens_of line.1)) b.0 b.1) in
+    let room = room_after ver usable h n (tokens_of line.1) b.0 spelled few total in
     let r = rest_takes ver usable h (begun_after b.0 n) lines o.0 room.0 room.1 o.1 in
     subst (RestSpelled ver h n (line ∷ lines)) (ok_is {E = ℕ × Cause} (with_entry b.0 o.0) p o.2) (entry_more ver usable h n line lines b.0 o.0 spelled r)
 
@@ -201,18 +202,18 @@ module _ (ver : Version) (usable : IsUsable ver) (h : Config) where
   rest_again n (line ∷ lines) [] [] fit fits few total e = absurd cc
   rest_again n (line ∷ lines) (c ∷ cs) ts fit fits few total e =
       let here : line.1 ≡ spaced (command_words c) = cc in
-      let words : words_of line.1 ≡ command_words c = ap words_of here ∙ words_of-line (command_words c) (command_line h.words c fit.0.0) in
-      let read : entry_at ver h n (words_of line.1) ≡ Ok (entry.Order c) = ap (entry_at ver h n) words ∙ order_again ver usable h n c fit.0 in
+      let words : tokens_of line.1 ≡ command_words c = ap tokens_of here ∙ tokens_of-line (command_words c) (command_line h.words c fit.0.0) in
+      let read : entry_at ver h n (tokens_of line.1) ≡ Ok (entry.Order c) = ap (entry_at ver h n) words ∙ order_again ver usable h n c fit.0 in
       let after : map text lines ≡ program_lines cs ++ section_lines n ts = cc in
       rw (read, rest_again n lines cs ts fit.1 fits few total after) refl
   rest_again n (line ∷ lines) [] (t ∷ ts) fit fits few total e =
       let more : (n + 1) + length ts ≡ n + length (t ∷ ts) = omega arith in
       let here : line.1 ≡ spaced (section_words n) = cc in
       let lt : n < ver.threads = omega (arith, few, more) in
-      let words : words_of line.1 ≡ section_words n = ap words_of here ∙
-      words_of-line (section_words n) (section_line_words n (omega (arith, lt, usable.threads))) in
+      let words : tokens_of line.1 ≡ section_words n = ap tokens_of here ∙
+      tokens_of-line (section_words n) (section_line_words n (omega (arith, lt, usable.threads))) in
       let room : total_words h (n + 1) ≤ ver.heap_words = fewer h (n + 1) (n + length (t ∷ ts)) ver.heap_words (omega arith) total in
-      let read : entry_at ver h n (words_of line.1) ≡ Ok entry.Section = ap (entry_at ver h n) words ∙ begin_again ver usable h n lt room in
+      let read : entry_at ver h n (tokens_of line.1) ≡ Ok entry.Section = ap (entry_at ver h n) words ∙ begin_again ver usable h n lt room in
       let after : map text lines ≡ program_lines t ++ section_lines (n + 1) ts = cc in
       rw (
         read,

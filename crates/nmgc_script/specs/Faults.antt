@@ -2,7 +2,8 @@
 use Rattle.std.specs.Prelude.{◌≡◌, ◌≢◌, ◌<◌, ◌+◌, ℕ, List, [], ◌∷◌, ◌⊎◌, length, codes, if◌then◌else◌}
 use Rattle.std.specs.Str.{bytes_eq}
 use Rattle.nmgc_world_spec.specs.{declared.command.Command.Command, Command.HasRegistersBelow, Command.HasNumbers, Command.words_made}
-use Rattle.nmgc_script.specs.{declared.fault.Cause.Cause, declared.fault.ScriptFault.ScriptFault, declared.script.Config.Config, declared.verbs.Verb.Verb, declared.version.Version.Version, Limits.FitsConfig, Limits.IsVersion, Limits.total_words, Spelling.spaced, Spelling.verb_name, Spelling.command_words, Spelling.heap_words, Spelling.section_words, Spelling.version_words, Text.words_of, Text.kept_lines, Text.end_of}
+use Rattle.nmgc_io.specs.Text.{tokens_of, spaced}
+use Rattle.nmgc_script.specs.{declared.fault.Cause.Cause, declared.fault.ScriptFault.ScriptFault, declared.script.Config.Config, declared.verbs.Verb.Verb, declared.version.Version.Version, Limits.FitsConfig, Limits.IsVersion, Limits.total_words, Spelling.verb_name, Spelling.command_words, Spelling.heap_words, Spelling.section_words, Spelling.version_words, Text.kept_lines, Text.end_of}
 use Rattle.nmgc_script.specs.declared.fault.Cause.TheVariants as cause
 use Rattle.nmgc_script.specs.declared.fault.ScriptFault.TheVariants as script_fault
 
@@ -64,8 +65,8 @@ begun_with n words = if bytes_eq (first_of words) (codes "thread") then n + 1 el
 abbrev pub IsFaultInRest : Version → Config → ℕ → ℕ → List (ℕ × List ℕ) → ℕ → Cause → Type 0
 IsFaultInRest v h n end [] number c = (n ≡ 0) × (number ≡ end) × (c ≡ cause.Thread)
 IsFaultInRest v h n end (line ∷ lines) number c =
-    ((number ≡ line.0) × IsFirstFault v h n (words_of line.1) c) ⊎
-    (IsFaultless v h n (words_of line.1) × IsFaultInRest v h (begun_with n (words_of line.1)) end lines number c)
+    ((number ≡ line.0) × IsFirstFault v h n (tokens_of line.1) c) ⊎
+    (IsFaultless v h n (tokens_of line.1) × IsFaultInRest v h (begun_with n (tokens_of line.1)) end lines number c)
 
 -- the first bad line from the heap line on, and its first cause; without a heap line, the line after the last one
 abbrev pub IsFaultFromHeap : Version → ℕ → List (ℕ × List ℕ) → ℕ → Cause → Type 0

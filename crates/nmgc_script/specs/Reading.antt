@@ -8,7 +8,8 @@ use Rattle.std.specs.{Int.is_power_of_two, Str.bytes_eq, Str.Parse.digits_value}
 use Rattle.nmgc_limits.specs.Limits.{most_nursery_words, most_quota, most_segment_words, least_segment_words, most_slice, most_trigger}
 use Rattle.nmgc_world_spec.specs.{declared.command.Operand.Operand, declared.command.Operand.TheVariants.Register, declared.command.Operand.TheVariants.Shared, declared.command.Command.Command, Command.words_made}
 use Rattle.nmgc_world_spec.specs.declared.command.Command.TheVariants.{Num, Nil, Mov, Con, Var, Arr, Thunk, Weak, Stack, Get, Set, Cas, Update, Force, Push, Pop, Deref, Finalise, NextFin, Show, Same, Yield, Collect, Full}
-use Rattle.nmgc_script.specs.{declared.fault.Cause.Cause, declared.fault.LineFault.LineFault, declared.fault.ScriptFault.ScriptFault, declared.script.Config.Config, declared.script.Script.Script, declared.verbs.Verb.Verb, declared.verbs.TheConstants.VERBS, declared.version.Version.Version, declared.sections.Entry.Entry, Limits.total_words, Limits.version_1, Limits.version_2, Limits.version_3, Spelling.verb_name, Text.words_of}
+use Rattle.nmgc_io.specs.Text.{tokens_of}
+use Rattle.nmgc_script.specs.{declared.fault.Cause.Cause, declared.fault.LineFault.LineFault, declared.fault.ScriptFault.ScriptFault, declared.script.Config.Config, declared.script.Script.Script, declared.verbs.Verb.Verb, declared.verbs.TheConstants.VERBS, declared.version.Version.Version, declared.sections.Entry.Entry, Limits.total_words, Limits.version_1, Limits.version_2, Spelling.verb_name, Limits.version_3}
 use Rattle.nmgc_script.specs.declared.fault.Cause.TheVariants as cause
 use Rattle.nmgc_script.specs.declared.fault.LineFault.TheVariants as fault
 use Rattle.nmgc_script.specs.declared.fault.ScriptFault.TheVariants as script_fault
@@ -261,7 +262,7 @@ with_entry (entry.Order c) rest = (c ∷ rest.0, rest.1)
 unfoldable pub rest_at : Version → Config → ℕ → List (ℕ × List ℕ) → Result (List Command × List (List Command)) (ℕ × Cause)
 rest_at v h n [] = Ok ([], [])
 rest_at v h n (line ∷ lines) = do
-  e ← at_line line.0 (entry_at v h n (words_of line.1))
+  e ← at_line line.0 (entry_at v h n (tokens_of line.1))
   others ← rest_at v h (begun_after e n) lines
   Ok (with_entry e others)
 
@@ -272,7 +273,7 @@ programs_at v h lines = rest_at v h 1 lines >>= λ programs. Ok (programs.0 ∷ 
 -- the programs of all sections, read from the lines after the heap line
 unfoldable pub threads_at : Version → ℕ → Config → List (ℕ × List ℕ) → Result (List (List Command)) (ℕ × Cause)
 threads_at v end h [] = Err (end, cause.Thread)
-threads_at v end h (line ∷ lines) = at_line line.0 (section_at v h 0 (words_of line.1)) >>= λ first. programs_at v h lines
+threads_at v end h (line ∷ lines) = at_line line.0 (section_at v h 0 (tokens_of line.1)) >>= λ first. programs_at v h lines
 
 -- the version that the version line names, and the lines after it
 unfoldable pub version_at : ℕ → List (ℕ × List ℕ) → Result (Version × List (ℕ × List ℕ)) (ℕ × Cause)
@@ -285,7 +286,7 @@ version_at end (line ∷ lines) =
 -- the settings of the heap line, and the lines after it
 unfoldable pub heap_at : Version → ℕ → List (ℕ × List ℕ) → Result (Config × List (ℕ × List ℕ)) (ℕ × Cause)
 heap_at v end [] = Err (end, cause.Heap)
-heap_at v end (line ∷ lines) = at_line line.0 (heap_words_at v (words_of line.1)) >>= λ config. Ok (config, lines)
+heap_at v end (line ∷ lines) = at_line line.0 (heap_words_at v (tokens_of line.1)) >>= λ config. Ok (config, lines)
 
 -- the script of these lines; if they end too early, the fault is at the line after the last
 unfoldable pub script_at : ℕ → List (ℕ × List ℕ) → Result Script (ℕ × Cause)

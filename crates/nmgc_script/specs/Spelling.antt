@@ -1,6 +1,6 @@
 -- How scripts are spelled.
 use Rattle.std.specs.Prelude.{◌≡◌, ℕ, ◌+◌, List, [], ◌∷◌, ◌++◌, map, codes, decimal}
-use Rattle.std.specs.List.{join_with_byte, flat_map}
+use Rattle.nmgc_io.specs.Text.{spaced, ended}
 use Rattle.nmgc_world_spec.specs.{declared.command.Operand.Operand, declared.command.Operand.TheVariants.Register, declared.command.Operand.TheVariants.Shared, declared.command.Command.Command}
 use Rattle.nmgc_world_spec.specs.declared.command.Command.TheVariants.{Num, Nil, Mov, Con, Var, Arr, Thunk, Weak, Stack, Get, Set, Cas, Update, Force, Push, Pop, Deref, Finalise, NextFin, Show, Same, Yield, Collect, Full}
 use Rattle.nmgc_script.specs.{declared.script.Config.Config, declared.script.Script.Script, declared.verbs.Verb.Verb, Limits.FitsScript, Text.kept_lines}
@@ -76,10 +76,6 @@ heap_words c = codes "heap" ∷ decimal c.segments ∷ decimal c.words ∷ decim
 abbrev pub section_words : ℕ → List (List ℕ)
 section_words n = codes "thread" ∷ decimal n ∷ []
 
--- the line of these tokens
-abbrev pub spaced : List (List ℕ) → List ℕ
-spaced words = join_with_byte 32 words
-
 -- the lines of a program
 abbrev pub program_lines : List Command → List (List ℕ)
 program_lines program = map (λ c. spaced (command_words c)) program
@@ -101,10 +97,6 @@ script_lines s = spaced (version_words s.version) ∷ spaced (heap_words s.confi
 pub record Spells (bytes : List ℕ) (s : Script) : Type 0 where
   pub lines : map (λ line. line.1) (kept_lines bytes) ≡ script_lines s
   pub fits : FitsScript s
-
--- the lines, each with a line feed at its end
-abbrev pub ended : List (List ℕ) → List ℕ
-ended lines = flat_map (λ line. line ++ 10 ∷ []) lines
 
 -- the plain spelling: no line is passed over
 abbrev pub plain : Script → List ℕ

@@ -9,10 +9,11 @@ ghost use Rattle.nmgc_script.specs.Reading.{GivesAt, at_line, version_at, heap_a
 
 use crate::config::heap_words;
 use crate::sections::{Entry, read_entry, section};
-use crate::text::{Lines, cut_words};
+use crate::text::Lines;
 use crate::version::Version;
 use crate::{Cause, Config, LineFault, Script, ScriptFault};
 use nmgc_commands::PackedCommand;
+use nmgc_io::cut_tokens_within;
 use nmgc_lists::{List, NoMemory};
 use std::alloc::Global;
 
@@ -155,7 +156,7 @@ fn heap_line<'a>(
             cause: Cause::Heap,
         });
     };
-    cut_words(words, line, lines.text())?;
+    cut_tokens_within(words, line, lines.text())?;
     at_line(number, heap_words(version, words))
 }
 
@@ -191,7 +192,7 @@ fn threads<'a>(
             cause: Cause::Thread,
         });
     };
-    cut_words(words, line, lines.text())?;
+    cut_tokens_within(words, line, lines.text())?;
     at_line(number, section(version, config, 0, words))?;
     programs(alloc, version, config, lines, words)
 }
@@ -211,7 +212,7 @@ fn programs<'a>(
     let mut program = List::new(alloc);
     let mut begun = 1;
     while let Some((number, line)) = lines.next() {
-        cut_words(words, line, lines.text())?;
+        cut_tokens_within(words, line, lines.text())?;
         match at_line(number, read_entry(alloc, version, config, begun, words))? {
             Entry::Section => {
                 threads.push(program)?;

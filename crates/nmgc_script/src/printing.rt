@@ -5,8 +5,9 @@
 //! register and no space after it.
 ghost use Rattle.std.specs.Prelude.{◌≡◌, ◌∷◌, [], ◌++◌, decimal, map, IfOk, OnOk};
 ghost use Rattle.nmgc_commands.specs.Packed.{command_of};
-ghost use Rattle.nmgc_script.specs.{Limits.FitsScript, Printing.word_text, Printing.after_spaces};
-ghost use Rattle.nmgc_script.specs.Spelling.{Spells, command_words, ended, heap_words, operand_word, plain, program_lines, section_lines, section_words, spaced, version_words};
+ghost use Rattle.nmgc_io.specs.Text.{after_spaces, ended, spaced};
+ghost use Rattle.nmgc_script.specs.{Limits.FitsScript, Printing.word_text};
+ghost use Rattle.nmgc_script.specs.Spelling.{Spells, command_words, heap_words, operand_word, plain, program_lines, section_lines, section_words, version_words};
 
 use crate::verbs::Verb;
 use crate::{Config, Script};

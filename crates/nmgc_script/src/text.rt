@@ -1,17 +1,12 @@
-//! Lines and tokens of a text.
+//! The lines of a text that are read.
 //!
-//! A text is cut at line feeds, and the last line feed may be missing. A line is cut at single spaces, so two spaces in a row
-//! make an empty token. `Lines` iterates over the lines that are read, and keeps the number of the next line of the text.
+//! `Lines` iterates over the lines that are neither blank nor comments, and keeps the number of the next line of the text.
 //! Easy to get wrong: a line that is passed over still has a number. If the text ends too early, the reported line doesn't
 //! exist.
-//!
-//! Most lines are shorter than the group of bytes that is searched at once. So a line is cut together with the text after it,
-//! which fills the group.
-ghost use Rattle.std.specs.Prelude.{◌≡◌, ◌+◌, ◌<◌, ◌≤◌, ◌^◌, [], ◌∷◌, length, map, take, IfSome, IfNone, OnOk};
-ghost use Rattle.nmgc_script.specs.Text.{lines_of, words_of, is_passed, kept_after, end_after, kept_lines, end_of};
+ghost use Rattle.std.specs.Prelude.{◌≡◌, ◌+◌, ◌<◌, ◌≤◌, ◌^◌, [], ◌∷◌, length, take, IfSome, IfNone};
+ghost use Rattle.nmgc_script.specs.Text.{kept_after, end_after, kept_lines, end_of};
 
-use nmgc_io::{cut, cut_within};
-use nmgc_lists::NoMemory;
+use nmgc_io::{is_blank_or_comment, split_line};
 
 /// A position in a text: the beginning of a line.
 #[derive(Drop)]
@@ -65,54 +60,11 @@ impl<'a> Lines<'a> {
             let text = self.rest;
             self.rest = rest;
             self.number += 1;
-            if !is_passed(line) {
+            if !is_blank_or_comment(line) {
                 self.text = text;
                 return Some((number, line));
             }
         }
         None
     }
-}
-
-// Whether a line is passed over: it is empty or a remark.
-fn is_passed(line: &[u8]) -> bool
-    ensures { result ≡ is_passed line.now }
-{
-    match line {
-        [] => true,
-        [first, ..] => *first == b'#',
-    }
-}
-
-// Splits a text into its first line, without the line feed, and the text after it. Returns `None` if the text is empty.
-fn split_line(bytes: &[u8]) -> Option<(&[u8], &[u8])>
-    ensures line { IfSome result (λ parts. lines_of bytes.now ≡ parts.0.now ∷ lines_of parts.1.now) }
-    ensures less { IfSome result (λ parts. length parts.1.now < length bytes.now) }
-    ensures front { IfSome result (λ parts. parts.0.now ≡ take (length parts.0.now) bytes.now) }
-    ensures none { IfNone result (lines_of bytes.now ≡ []) }
-{
-    if bytes.is_empty() {
-        return None;
-    }
-    match cut(bytes, b'\n') {
-        Some(parts) => Some(parts),
-        None => Some((bytes, &[])),
-    }
-}
-
-/// Replaces the content of `words` by the tokens of `line`, which is the beginning of `text`.
-pub fn cut_words<'a>(words: &mut Vec<&'a [u8]>, line: &'a [u8], text: &[u8]) -> Result<(), NoMemory>
-    requires { line.now ≡ take (length line.now) text.now }
-    ensures { OnOk result (map (λ w. w.now) words.new.items ≡ words_of line.now) }
-{
-    words.clear();
-    let mut rest = line;
-    let mut from = 0;
-    while let Some((word, after)) = cut_within(text, from, rest, b' ') {
-        words.push(word)?;
-        from += word.len() + 1;
-        rest = after;
-    }
-    words.push(rest)?;
-    Ok(())
 }

@@ -4,7 +4,8 @@ use Rattle.std.specs.{Prelude.All, Prelude.Contains, Fmt.digits}
 use Rattle.nmgc_lists.specs.{declared.memory.NoMemory.NoMemory, laws.Items.contains_cases, laws.Items.contains_head, laws.Items.contains_tail, laws.Items.nothing_in}
 use Rattle.nmgc_world_spec.specs.{declared.command.Command.Command, Command.Fits, Command.HasRegistersBelow}
 use Rattle.nmgc_limits.specs.declared.mutators.TheConstants.{REGISTERS}
-use Rattle.nmgc_script.specs.{declared.fault.Cause.Cause, declared.fault.ScriptFault.ScriptFault, declared.script.Config.Config, declared.script.Script.Script, Limits.FitsScript, Text.lines_of, Text.kept_from, Text.kept_lines, Text.is_passed, Spelling.spaced, Spelling.command_words, Spelling.version_words, Spelling.heap_words, Spelling.section_words, Spelling.program_lines, Spelling.section_lines, Spelling.Spells, laws.Lines.IsLine, laws.Lines.IsKept, laws.Lines.made_kept, laws.Lines.made_short, laws.Lines.command_line, laws.Versions.bench_sizes_fit}
+use Rattle.nmgc_io.specs.Text.{lines_of, is_blank_or_comment, spaced}
+use Rattle.nmgc_script.specs.{declared.fault.Cause.Cause, declared.fault.ScriptFault.ScriptFault, declared.script.Config.Config, declared.script.Script.Script, Limits.FitsScript, Text.kept_from, Text.kept_lines, Spelling.command_words, Spelling.version_words, Spelling.heap_words, Spelling.section_words, Spelling.program_lines, Spelling.section_lines, Spelling.Spells, laws.Lines.IsLine, laws.Lines.IsKept, laws.Lines.made_kept, laws.Lines.made_short, laws.Lines.command_line, laws.Versions.bench_sizes_fit}
 use Rattle.nmgc_script.specs.declared.fault.ScriptFault.TheVariants as script_fault
 use Rattle.nmgc_trace_checker.specs.Reading.{script_head, IsLastIf, IsLastOf, IsSpelled, IsSpelledIf}
 use Rattle.nmgc_trace_checker.proofs.LineWords.{command_count}
@@ -27,11 +28,11 @@ lines_are line none = ap with_head (feed_on line none)
 abbrev texts : List (ℕ × List ℕ) → List (List ℕ)
 texts lines = map (λ line. line.1) lines
 
-kept_line : (line : List ℕ) → is_passed line ≡ false → texts (kept_from 1 (with_head (line ∷ []))) ≡ with_head (line ∷ [])
+kept_line : (line : List ℕ) → is_blank_or_comment line ≡ false → texts (kept_from 1 (with_head (line ∷ []))) ≡ with_head (line ∷ [])
 unfolding kept_from
 kept_line line k = rw k refl
 
-passed_line : (line : List ℕ) → is_passed line ≡ true → texts (kept_from 1 (with_head (line ∷ []))) ≡ with_head []
+passed_line : (line : List ℕ) → is_blank_or_comment line ≡ true → texts (kept_from 1 (with_head (line ∷ []))) ≡ with_head []
 unfolding kept_from
 passed_line line k = rw k refl
 
@@ -87,7 +88,7 @@ module _ (line : List ℕ) (none : IsLine line) (s : Script) (spells : Spells (s
       )
 
   line_is : line ≡ spaced (command_words c)
-  line_is = elim (cases_Bool (is_passed line)) [
+  line_is = elim (cases_Bool (is_blank_or_comment line)) [
     | inl p ↦ absurd (not_none lines_of_it.0 (spaced (command_words c)) (ap after_three (sym (passed_line line p) ∙ lines_of_it.1)))
     | inr k ↦ just_one lines_of_it.0 line (spaced (command_words c)) (ap after_three (sym (kept_line line k) ∙ lines_of_it.1))
   ]

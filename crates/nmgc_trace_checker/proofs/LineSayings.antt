@@ -1,5 +1,5 @@
 -- A line of format 1 is read as its text says, and in no other way.
-use Rattle.nmgc_trace_checker.proofs.Vocabulary.{◌≡◌, ◌<◌, ℕ, List, [], ◌∷◌, refl, sym, ap, subst, ◌∙◌, inl, inr, true, false, codes, decimal, Option, Some, None, bytes_eq, same_Some, none-some, Name, Command, Reply, Event, IsName, words_of, is_passed, spaced, command_words, name_text, reply_text, ◌>>=◌, name_at, bind_some, guard_some, name_reads, chosen, Line, byte_at, count_line_at, mark_line_at, push_line_at, scan_line_at, take_line_at, close_line_at, drain_line_at, marker_line_at, plain_line_at, parts_at, IsCommandOf, IsLineCommand, IsLineGiven, IsLineBy, IsMutators, IsReply, given_words, IsGiven, IsTakeOf, SaysCore, SaysLine}
+use Rattle.nmgc_trace_checker.proofs.Vocabulary.{◌≡◌, ◌<◌, ℕ, List, [], ◌∷◌, refl, sym, ap, subst, ◌∙◌, inl, inr, true, false, codes, decimal, Option, Some, None, bytes_eq, same_Some, none-some, Name, Command, Reply, Event, IsName, tokens_of, is_blank_or_comment, spaced, command_words, name_text, reply_text, ◌>>=◌, name_at, bind_some, guard_some, name_reads, chosen, Line, byte_at, count_line_at, mark_line_at, push_line_at, scan_line_at, take_line_at, close_line_at, drain_line_at, marker_line_at, plain_line_at, parts_at, IsCommandOf, IsLineCommand, IsLineGiven, IsLineBy, IsMutators, IsReply, given_words, IsGiven, IsTakeOf, SaysCore, SaysLine}
 use Rattle.nmgc_snapshot_laws.specs.declared.event.Event.TheVariants as core
 use Rattle.nmgc_trace_checker.specs.declared.line.Line.TheVariants as line
 use Rattle.nmgc_trace_checker.proofs.{WordReads.Given, WordReads.is_word, WordReads.byte_takes, WordReads.byte_again, WordReads.parts_takes, WordReads.parts_again, Sayings.command_said}
@@ -136,7 +136,7 @@ drain_again = refl
 
 -- THE MEANING OF A LINE
 
-says_by : (text : List ℕ) (l : Line) → SaysBy (words_of text) l → SaysLine text l
+says_by : (text : List ℕ) (l : Line) → SaysBy (tokens_of text) l → SaysLine text l
 says_by text line.Blank h = absurd h
 says_by text (line.Mutators n) h = h
 says_by text line.Mark h = h
@@ -145,9 +145,9 @@ says_by text (line.Take m name) h = h
 says_by text line.Drain h = h
 says_by text line.Unknown h = absurd h
 
-module _ (text : List ℕ) (kept : is_passed text ≡ false) (none : plain_line_at (words_of text) ≡ None) where
+module _ (text : List ℕ) (kept : is_blank_or_comment text ≡ false) (none : plain_line_at (tokens_of text) ≡ None) where
   abbrev words : List (List ℕ)
-  words = words_of text
+  words = tokens_of text
 
   never : (l : Line) → plain_line_at words ≡ Some l → ⊥
   never l e = none-some l (sym none ∙ e)
@@ -202,12 +202,12 @@ module _ (text : List ℕ) (kept : is_passed text ≡ false) (none : plain_line_
   parts_say l None e h = subst (SaysLine text) (sym h) (no_parts e)
   parts_say l (Some p) e h = given_says p e l h
 
-says : (text : List ℕ) (l : Line) (o : Option Line) → is_passed text ≡ false → plain_line_at (words_of text) ≡ o → IsLineBy o (words_of text) l →
+says : (text : List ℕ) (l : Line) (o : Option Line) → is_blank_or_comment text ≡ false → plain_line_at (tokens_of text) ≡ o → IsLineBy o (tokens_of text) l →
     SaysLine text l
-says text l (Some u) kept e h = subst (SaysLine text) (sym h) (says_by text u (plain_takes (words_of text) u e))
-says text l None kept e h = parts_say text kept e l (parts_at (words_of text)) refl h
+says text l (Some u) kept e h = subst (SaysLine text) (sym h) (says_by text u (plain_takes (tokens_of text) u e))
+says text l None kept e h = parts_say text kept e l (parts_at (tokens_of text)) refl h
 
-pub line_says : (text : List ℕ) (words : List (List ℕ)) (l : Line) → is_passed text ≡ false → words ≡ words_of text → IsLineBy (plain_line_at words) words l →
+pub line_says : (text : List ℕ) (words : List (List ℕ)) (l : Line) → is_blank_or_comment text ≡ false → words ≡ tokens_of text → IsLineBy (plain_line_at words) words l →
     SaysLine text l
 line_says text words l kept is h =
-    says text l (plain_line_at (words_of text)) kept refl (subst (λ (ws : List (List ℕ)). IsLineBy (plain_line_at ws) ws l) is h)
+    says text l (plain_line_at (tokens_of text)) kept refl (subst (λ (ws : List (List ℕ)). IsLineBy (plain_line_at ws) ws l) is h)

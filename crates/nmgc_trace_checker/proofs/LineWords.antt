@@ -2,18 +2,19 @@
 use Rattle.std.proofs.{Common.◌≡◌, Common.◌≢◌, Common.◌≤◌, Common.◌+◌, Common.ℕ, Common.List, Common.[], Common.◌∷◌, Common.◌++◌, Common.map, Common.length, Common.arith, Common.inl, Common.inr, lemmas.Bool.Decides.eqb_tells, lemmas.List.length-map}
 use Rattle.std.specs.List.{AllByRecursion}
 use Rattle.nmgc_world_spec.specs.{declared.command.Command.Command, declared.command.Command.TheVariants.Num, declared.command.Command.TheVariants.Nil, declared.command.Command.TheVariants.Mov, declared.command.Command.TheVariants.Con, declared.command.Command.TheVariants.Var, declared.command.Command.TheVariants.Arr, declared.command.Command.TheVariants.Thunk, declared.command.Command.TheVariants.Weak, declared.command.Command.TheVariants.Stack, declared.command.Command.TheVariants.Get, declared.command.Command.TheVariants.Set, declared.command.Command.TheVariants.Cas, declared.command.Command.TheVariants.Update, declared.command.Command.TheVariants.Force, declared.command.Command.TheVariants.Push, declared.command.Command.TheVariants.Pop, declared.command.Command.TheVariants.Deref, declared.command.Command.TheVariants.Finalise, declared.command.Command.TheVariants.NextFin, declared.command.Command.TheVariants.Show, declared.command.Command.TheVariants.Same, declared.command.Command.TheVariants.Yield, declared.command.Command.TheVariants.Collect, declared.command.Command.TheVariants.Full, Command.Fits}
-use Rattle.nmgc_script.specs.{Text.words_of, Text.onto_first, Spelling.operand_word, Spelling.command_words, laws.Lines.IsWord}
+use Rattle.nmgc_io.specs.Text.{tokens_of, onto_first}
+use Rattle.nmgc_script.specs.{Spelling.operand_word, Spelling.command_words, laws.Lines.IsWord}
 
 onto_word : (b : ℕ) (words : List (List ℕ)) → b ≢ 32 → AllByRecursion IsWord words → AllByRecursion IsWord (onto_first b words)
 onto_word b [] ne h = ((ne, tt), tt)
 onto_word b (w ∷ ws) ne h = ((ne, h.0), h.1)
 
 -- the tokens of a line have no spaces
-pub words_are : (line : List ℕ) → AllByRecursion IsWord (words_of line)
+pub words_are : (line : List ℕ) → AllByRecursion IsWord (tokens_of line)
 words_are [] = (tt, tt)
 words_are (b ∷ line) = elim (eqb_tells b 32) [
   | inl p ↦ rw p.0 (tt, words_are line)
-  | inr p ↦ rw p.0 (onto_word b (words_of line) p.1 (words_are line))
+  | inr p ↦ rw p.0 (onto_word b (tokens_of line) p.1 (words_are line))
 ]
 
 -- the tokens before other tokens

@@ -4,7 +4,8 @@ use Rattle.std.specs.{Prelude.All, List.AllByRecursion, Str.bytes_eq}
 use Rattle.nmgc_world_spec.specs.{declared.value.Name.Name, declared.command.Command.Command, declared.command.Reply.Reply, Command.Fits}
 use Rattle.nmgc_world_spec.specs.declared.command.Reply.TheVariants as reply
 use Rattle.nmgc_object.specs.Words.{IsName}
-use Rattle.nmgc_script.specs.{Text.words_of, Text.is_passed, Spelling.spaced, Spelling.command_words, laws.Lines.IsWord, laws.Lines.words_again, laws.Lines.words_of-line, laws.Lines.made_kept, laws.Lines.command_line}
+use Rattle.nmgc_io.specs.Text.{tokens_of, is_blank_or_comment, spaced}
+use Rattle.nmgc_script.specs.{Spelling.command_words, laws.Lines.IsWord, laws.Lines.words_again, laws.Lines.tokens_of-line, laws.Lines.made_kept, laws.Lines.command_line}
 use Rattle.nmgc_journal.specs.{Text.name_text, Text.reply_text, Reading.◌>>=◌, Reading.name_at, laws.Reading.bind_some, laws.Reading.guard_some, laws.Reading.name_reads}
 use Rattle.nmgc_lists.specs.laws.Truths.{chosen}
 use Rattle.nmgc_barrier_checker.specs.declared.event.Event.{Event}
@@ -19,10 +20,10 @@ use Rattle.nmgc_trace_checker.proofs.{LineWords.words_are, LineWords.front_words
 same_words : (words : List (List ℕ)) → AllByRecursion IsWord words → (c : Command) → Fits 4096 c → spaced words ≡ spaced (command_words c) →
     words ≡ command_words c
 same_words [] h c fits e =
-    absurd (false≢true (sym (made_kept (command_words c) (command_line 4096 c fits)).kept ∙ ap is_passed (sym e)))
-same_words (w ∷ ws) h c fits e = sym (words_again w ws h.0 h.1) ∙ ap words_of e ∙ words_of-line (command_words c) (command_line 4096 c fits)
+    absurd (false≢true (sym (made_kept (command_words c) (command_line 4096 c fits)).kept ∙ ap is_blank_or_comment (sym e)))
+same_words (w ∷ ws) h c fits e = sym (words_again w ws h.0 h.1) ∙ ap tokens_of e ∙ tokens_of-line (command_words c) (command_line 4096 c fits)
 
-pub command_said : (text : List ℕ) (m : ℕ) (words : List (List ℕ)) (answer : List ℕ) (c : Command) → words_of text ≡ given_words m words answer →
+pub command_said : (text : List ℕ) (m : ℕ) (words : List (List ℕ)) (answer : List ℕ) (c : Command) → tokens_of text ≡ given_words m words answer →
     IsCommandOf words c → words ≡ command_words c
 command_said text m words answer c e is =
     let all : AllByRecursion IsWord (given_words m words answer) = subst (AllByRecursion IsWord) e (words_are text) in
@@ -200,7 +201,7 @@ stop_again = refl
 
 -- THE MEANING OF A LINE
 
-says_by : (text : List ℕ) (t : Meaning) → SaysBy (words_of text) t → Says text t
+says_by : (text : List ℕ) (t : Meaning) → SaysBy (tokens_of text) t → Says text t
 says_by text meaning.Blank h = absurd h
 says_by text (meaning.Mutators n) h = h
 says_by text (meaning.Event e) h = h
@@ -237,9 +238,9 @@ module _ (words : List (List ℕ)) (none : plain_at words ≡ None) (given : (m 
       names_words names) (meaning.Event (event.Freed names)) h.1 (freed_again names h.0))
   no_event event.Stop h = never (meaning.Event event.Stop) (at_words words (codes "stop" ∷ []) (meaning.Event event.Stop) h stop_again)
 
-module _ (text : List ℕ) (kept : is_passed text ≡ false) (none : plain_at (words_of text) ≡ None) where
+module _ (text : List ℕ) (kept : is_blank_or_comment text ≡ false) (none : plain_at (tokens_of text) ≡ None) where
   abbrev words : List (List ℕ)
-  words = words_of text
+  words = tokens_of text
 
   -- a text that is no line of a trace
   nothing : ((m : ℕ) (c : Command) (answer : Reply) → IsGiven words m c answer → ⊥) →
@@ -304,11 +305,11 @@ module _ (text : List ℕ) (kept : is_passed text ≡ false) (none : plain_at (w
   parts_say t None e h = subst (Says text) (sym h) (no_parts e)
   parts_say t (Some p) e h = given_says p e t (rows_if p.2 p.1) refl h
 
-says : (text : List ℕ) (t : Meaning) (o : Option Meaning) → is_passed text ≡ false → plain_at (words_of text) ≡ o → IsMeaningBy o (words_of text) t → Says text t
-says text t (Some u) kept e h = subst (Says text) (sym h) (says_by text u (plain_takes (words_of text) u e))
-says text t None kept e h = parts_say text kept e t (parts_at (words_of text)) refl h
+says : (text : List ℕ) (t : Meaning) (o : Option Meaning) → is_blank_or_comment text ≡ false → plain_at (tokens_of text) ≡ o → IsMeaningBy o (tokens_of text) t → Says text t
+says text t (Some u) kept e h = subst (Says text) (sym h) (says_by text u (plain_takes (tokens_of text) u e))
+says text t None kept e h = parts_say text kept e t (parts_at (tokens_of text)) refl h
 
-pub meaning_says : (text : List ℕ) (words : List (List ℕ)) (t : Meaning) → is_passed text ≡ false → words ≡ words_of text → IsMeaningBy (plain_at words) words t →
+pub meaning_says : (text : List ℕ) (words : List (List ℕ)) (t : Meaning) → is_blank_or_comment text ≡ false → words ≡ tokens_of text → IsMeaningBy (plain_at words) words t →
     Says text t
 meaning_says text words t kept is h =
-    says text t (plain_at (words_of text)) kept refl (subst (λ (ws : List (List ℕ)). IsMeaningBy (plain_at ws) ws t) is h)
+    says text t (plain_at (tokens_of text)) kept refl (subst (λ (ws : List (List ℕ)). IsMeaningBy (plain_at ws) ws t) is h)

@@ -9,7 +9,8 @@ use Rattle.nmgc_snapshot_laws.specs.declared.event.Event.TheVariants as core
 use Rattle.nmgc_barrier_checker.specs.declared.event.Event.TheVariants as event
 use Rattle.nmgc_barrier_checker.specs.{declared.rows.Copying.Copying, declared.rows.Filling.Filling, Rows.copied, Rows.filled}
 use Rattle.nmgc_lists.specs.declared.memory.NoMemory.{NoMemory}
-use Rattle.nmgc_script.specs.{declared.fault.ScriptFault.ScriptFault, declared.script.Script.Script, Spelling.spaced, Spelling.command_words}
+use Rattle.nmgc_io.specs.Text.{spaced}
+use Rattle.nmgc_script.specs.{declared.fault.ScriptFault.ScriptFault, declared.script.Script.Script, Spelling.command_words}
 use Rattle.nmgc_script.specs.declared.fault.ScriptFault.TheVariants as script_fault
 use Rattle.nmgc_journal.specs.Reading.{◌>>=◌, number_at, name_at, value_at}
 use Rattle.nmgc_trace_checker.specs.{declared.line.Line.Line, declared.meaning.Meaning.Meaning}

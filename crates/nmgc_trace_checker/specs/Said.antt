@@ -8,7 +8,8 @@ use Rattle.nmgc_snapshot_laws.specs.declared.event.Event.TheVariants as core
 use Rattle.nmgc_barrier_checker.specs.{declared.event.Event.Event, declared.rows.Copying.Copying, declared.rows.Filling.Filling, Rows.copied, Rows.filled}
 use Rattle.nmgc_barrier_checker.specs.declared.event.Event.TheVariants as event
 use Rattle.nmgc_object.specs.Words.{IsName}
-use Rattle.nmgc_script.specs.{Text.lines_of, Text.words_of, Text.is_passed, Spelling.register_word, Spelling.operand_word, Spelling.command_words}
+use Rattle.nmgc_io.specs.Text.{lines_of, tokens_of, is_blank_or_comment}
+use Rattle.nmgc_script.specs.{Spelling.register_word, Spelling.operand_word, Spelling.command_words}
 use Rattle.nmgc_journal.specs.Text.{name_text, reply_text, IsValue}
 use Rattle.nmgc_trace_checker.specs.{declared.line.Line.Line, declared.meaning.Meaning.Meaning}
 use Rattle.nmgc_trace_checker.specs.declared.line.Line.TheVariants as line
@@ -130,17 +131,17 @@ SaysEvent words event.Stop = words ≡ codes "stop" ∷ []
 
 -- a text that is no line of a trace: it isn't passed over, and says nothing else
 pub record SaysNothing (text : List ℕ) : Type 0 where
-  pub kept : is_passed text ≡ false
-  pub mutators : (count : ℕ) → IsMutators (words_of text) count → ⊥
-  pub event : (e : Event) → SaysEvent (words_of text) e → ⊥
+  pub kept : is_blank_or_comment text ≡ false
+  pub mutators : (count : ℕ) → IsMutators (tokens_of text) count → ⊥
+  pub event : (e : Event) → SaysEvent (tokens_of text) e → ⊥
 
 -- the meaning of a line of format 2, by its tokens with single spaces between. It is a command with its answer, a number or
 -- names, each spelled as in scripts and reports. An empty line or a line that begins with `#` says nothing. A line that is
 -- spelled as nothing else is no line of a trace
 abbrev pub Says : List ℕ → Meaning → Type 0
-Says text meaning.Blank = is_passed text ≡ true
-Says text (meaning.Mutators count) = IsMutators (words_of text) count
-Says text (meaning.Event e) = SaysEvent (words_of text) e
+Says text meaning.Blank = is_blank_or_comment text ≡ true
+Says text (meaning.Mutators count) = IsMutators (tokens_of text) count
+Says text (meaning.Event e) = SaysEvent (tokens_of text) e
 Says text meaning.Unknown = SaysNothing text
 
 -- FORMAT 1
@@ -159,19 +160,19 @@ IsTakeOf words m name = (m < 256) × IsName name × (words ≡ codes "take" ∷ 
 
 -- a text that is no line of a trace of format 1: it isn't passed over, and says nothing else
 pub record SaysNoLine (text : List ℕ) : Type 0 where
-  pub kept : is_passed text ≡ false
-  pub mutators : (count : ℕ) → IsMutators (words_of text) count → ⊥
-  pub mark : words_of text ≡ codes "mark" ∷ [] → ⊥
-  pub event : (e : CoreEvent) → SaysCore (words_of text) e → ⊥
-  pub take : (m : ℕ) (name : Name) → IsTakeOf (words_of text) m name → ⊥
-  pub drain : words_of text ≡ codes "drain" ∷ [] → ⊥
+  pub kept : is_blank_or_comment text ≡ false
+  pub mutators : (count : ℕ) → IsMutators (tokens_of text) count → ⊥
+  pub mark : tokens_of text ≡ codes "mark" ∷ [] → ⊥
+  pub event : (e : CoreEvent) → SaysCore (tokens_of text) e → ⊥
+  pub take : (m : ℕ) (name : Name) → IsTakeOf (tokens_of text) m name → ⊥
+  pub drain : tokens_of text ≡ codes "drain" ∷ [] → ⊥
 
 -- the meaning of a line of format 1, by its tokens. A line that is kept and says nothing else is no line of a trace.
 abbrev pub SaysLine : List ℕ → Line → Type 0
-SaysLine text line.Blank = is_passed text ≡ true
-SaysLine text (line.Mutators count) = IsMutators (words_of text) count
-SaysLine text line.Mark = words_of text ≡ codes "mark" ∷ []
-SaysLine text (line.Event e) = SaysCore (words_of text) e
-SaysLine text (line.Take m name) = IsTakeOf (words_of text) m name
-SaysLine text line.Drain = words_of text ≡ codes "drain" ∷ []
+SaysLine text line.Blank = is_blank_or_comment text ≡ true
+SaysLine text (line.Mutators count) = IsMutators (tokens_of text) count
+SaysLine text line.Mark = tokens_of text ≡ codes "mark" ∷ []
+SaysLine text (line.Event e) = SaysCore (tokens_of text) e
+SaysLine text (line.Take m name) = IsTakeOf (tokens_of text) m name
+SaysLine text line.Drain = tokens_of text ≡ codes "drain" ∷ []
 SaysLine text line.Unknown = SaysNoLine text

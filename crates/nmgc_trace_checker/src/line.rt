@@ -4,7 +4,8 @@ ghost use Rattle.nmgc_trace_checker.specs.Reading.{count_line_at, mark_line_at, 
 ghost use Rattle.nmgc_trace_checker.specs.Said.{SaysLine};
 
 use crate::commands::{command, parts};
-use crate::tokens::{byte, cut_words, is_passed};
+use crate::tokens::byte;
+use nmgc_io::{cut_tokens, is_blank_or_comment};
 use nmgc_journal::read_name;
 use nmgc_lists::NoMemory;
 use nmgc_snapshot_laws::Event;
@@ -35,11 +36,11 @@ pub fn line_of(alloc: Global, text: &str) -> Result<Line, NoMemory>
     ensures { IfOk result (SaysLine text.now) }
 {
     let line = text.as_bytes();
-    if is_passed(line) {
+    if is_blank_or_comment(line) {
         return Ok(Line::Blank);
     }
     let mut words = Vec::with_capacity(alloc, 8)?;
-    cut_words(&mut words, line)?;
+    cut_tokens(&mut words, line)?;
     let said = line_by(alloc, words.as_slice())?;
     Ok(said)
 }

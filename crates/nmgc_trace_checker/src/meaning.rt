@@ -7,9 +7,10 @@ ghost use Rattle.nmgc_trace_checker.specs.Reading.{short_at, place_at, span_at, 
 ghost use Rattle.nmgc_trace_checker.specs.Said.{Says};
 
 use crate::commands::{command, parts};
-use crate::tokens::{byte, cut_words, is_passed, names, operand, pusher, register, short};
+use crate::tokens::{byte, names, operand, pusher, register, short};
 use nmgc_barrier_checker::rows::{copied, filled};
 use nmgc_barrier_checker::{Copying, Event, Filling};
+use nmgc_io::{cut_tokens, is_blank_or_comment};
 use nmgc_journal::read_name;
 use nmgc_lists::{List, NoMemory};
 use nmgc_world_spec::{Command, Operand, Reply};
@@ -33,11 +34,11 @@ pub fn meaning_of(alloc: Global, text: &str) -> Result<Meaning, NoMemory>
     ensures { IfOk result (Says text.now) }
 {
     let line = text.as_bytes();
-    if is_passed(line) {
+    if is_blank_or_comment(line) {
         return Ok(Meaning::Blank);
     }
     let mut words = Vec::with_capacity(alloc, 8)?;
-    cut_words(&mut words, line)?;
+    cut_tokens(&mut words, line)?;
     let meaning = meaning_by(alloc, words.as_slice())?;
     Ok(meaning)
 }

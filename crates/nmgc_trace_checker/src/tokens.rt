@@ -1,42 +1,17 @@
-//! The tokens of a line, and the meaning of one token.
+//! The meaning of the tokens of a line.
 //!
-//! A line is cut at single spaces, so two spaces in a row make an empty token, which is neither a number nor a name. Numbers
-//! and names are spelled as in a report, registers and operands as in a script.
-ghost use Rattle.std.specs.Prelude.{◌≡◌, ◌≢◌, ◌<◌, ◌≤◌, ◌++◌, ◌∷◌, [], map, length, All, IfSome, IfNone, IfOk, OnOk};
-ghost use Rattle.nmgc_script.specs.Text.{words_of, is_passed};
+//! Numbers and names are spelled as in a report, registers and operands as in a script. Two spaces in a row make an empty
+//! token, which is neither a number nor a name.
+ghost use Rattle.std.specs.Prelude.{◌≡◌, ◌≤◌, [], map, IfSome, IfOk};
 ghost use Rattle.nmgc_journal.specs.Reading.{number_at, name_at};
 ghost use Rattle.nmgc_trace_checker.specs.Reading.{byte_at, short_at, register_at, operand_at, each_at, no_names_at, names_at, pusher_at};
 
-use nmgc_io::{cut, read_number};
+use nmgc_io::read_number;
 use nmgc_journal::read_name;
 use nmgc_limits::REGISTERS;
 use nmgc_lists::{List, NoMemory};
 use nmgc_world_spec::{Name, Operand};
 use std::alloc::Global;
-
-/// Whether a line is empty or a remark, and so passed over. Takes no memory.
-pub(crate) fn is_passed(line: &[u8]) -> bool
-    ensures { result ≡ is_passed line.now }
-{
-    match line {
-        [] => true,
-        [first, ..] => *first == b'#',
-    }
-}
-
-/// Replaces the items of `words` by the tokens of a line.
-pub(crate) fn cut_words<'a>(words: &mut Vec<&'a [u8]>, line: &'a [u8]) -> Result<(), NoMemory>
-    ensures { OnOk result (map (λ w. w.now) words.new.items ≡ words_of line.now) }
-{
-    words.clear();
-    let mut rest = line;
-    while let Some((word, after)) = cut(rest, b' ') {
-        words.push(word)?;
-        rest = after;
-    }
-    words.push(rest)?;
-    Ok(())
-}
 
 // Returns the number of at most `limit` that a token spells, or `None`.
 fn number(word: &[u8], limit: u64) -> Option<u64>

@@ -1,61 +1,19 @@
 -- A line of tokens, and the tokens of a line: a spelling is read back.
-use Rattle.std.proofs.{Common.◌≡◌, Common.◌≢◌, Common.◌<◌, Common.◌≤◌, Common.◌+◌, Common.◌*◌, Common.◌^◌, Common.◌%◌, Common.ℕ, Common.List, Common.[], Common.◌∷◌, Common.◌++◌, Common.map, Common.length, Common.refl, Common.sym, Common.ap, Common.◌∙◌, Common.arith, Common.Bool, Common.true, Common.false, Common.cond, Common.leb, Common.decimal, Common.codes, Common.inl, Common.inr, Common.lit<, lemmas.Bool.ne_eqb, lemmas.Bool.leb-true, lemmas.Bool.Decides.eqb_tells, lemmas.Fmt.decimal_by_steps, lemmas.Fmt.length-decimal-le, lemmas.Fmt.decimal_digit, lemmas.List.append-nil, lemmas.List.length-append, lemmas.List.Elements.recursion_from_All}
-use Rattle.std.specs.{Prelude.All, List.AllByRecursion}
+use Rattle.std.proofs.{Common.◌≡◌, Common.◌≢◌, Common.◌<◌, Common.◌≤◌, Common.◌+◌, Common.◌*◌, Common.◌^◌, Common.◌%◌, Common.ℕ, Common.List, Common.[], Common.◌∷◌, Common.◌++◌, Common.map, Common.length, Common.refl, Common.ap, Common.arith, Common.Bool, Common.true, Common.false, Common.cond, Common.leb, Common.decimal, Common.codes, Common.lit<, lemmas.Bool.ne_eqb, lemmas.Bool.leb-true, lemmas.Fmt.decimal_by_steps, lemmas.Fmt.length-decimal-le, lemmas.Fmt.decimal_digit, lemmas.List.length-append}
+use Rattle.std.specs.List.{AllByRecursion}
 use Rattle.nmgc_world_spec.specs.{declared.command.Operand.Operand, declared.command.Operand.TheVariants.Register, declared.command.Operand.TheVariants.Shared, declared.command.Command.Command, declared.command.Command.TheVariants.Num, declared.command.Command.TheVariants.Nil, declared.command.Command.TheVariants.Mov, declared.command.Command.TheVariants.Con, declared.command.Command.TheVariants.Var, declared.command.Command.TheVariants.Arr, declared.command.Command.TheVariants.Thunk, declared.command.Command.TheVariants.Weak, declared.command.Command.TheVariants.Stack, declared.command.Command.TheVariants.Get, declared.command.Command.TheVariants.Set, declared.command.Command.TheVariants.Cas, declared.command.Command.TheVariants.Update, declared.command.Command.TheVariants.Force, declared.command.Command.TheVariants.Push, declared.command.Command.TheVariants.Pop, declared.command.Command.TheVariants.Deref, declared.command.Command.TheVariants.Finalise, declared.command.Command.TheVariants.NextFin, declared.command.Command.TheVariants.Show, declared.command.Command.TheVariants.Same, declared.command.Command.TheVariants.Yield, declared.command.Command.TheVariants.Collect, declared.command.Command.TheVariants.Full, Command.IsRegister, Command.IsOperand, Command.Fits}
-use Rattle.nmgc_script.specs.{Text.words_of, Text.onto_first, Text.is_passed, Spelling.spaced, Spelling.operand_word, Spelling.register_word, Spelling.command_words, Spelling.heap_words, Spelling.section_words, Spelling.version_words, Printing.after_spaces, declared.script.Config.Config, Limits.FitsConfig}
+use Rattle.nmgc_io.specs.{Text.tokens_of, Text.is_blank_or_comment, laws.Parts.cut_on, laws.Parts.tokens_cut, laws.Parts.last_token, Text.spaced, Text.after_spaces}
+use Rattle.nmgc_script.specs.{Spelling.operand_word, Spelling.register_word, Spelling.command_words, Spelling.heap_words, Spelling.section_words, Spelling.version_words, declared.script.Config.Config, Limits.FitsConfig}
 use Rattle.nmgc_lists.specs.laws.Truths.{cond_true}
 
 -- the token has no space
 abbrev pub IsWord : List ℕ → Type 0
 IsWord word = AllByRecursion (λ b. b ≢ 32) word
 
-words_on : (front back : List ℕ) → IsWord front → words_of (front ++ 32 ∷ back) ≡ front ∷ words_of back
-words_on [] back none = refl
-words_on (b ∷ front) back none = rw (ne_eqb b 32 none.0, words_on front back none.1) refl
-
-pub words_first : (bytes front back : List ℕ) → All (λ b. b ≢ 32) front → bytes ≡ front ++ 32 ∷ back → words_of bytes ≡ front ∷ words_of back
-words_first bytes front back none e = ap words_of e ∙ words_on front back (recursion_from_All (λ b. b ≢ 32) front none)
-
-words_off : (bytes : List ℕ) → IsWord bytes → words_of bytes ≡ bytes ∷ []
-words_off [] none = refl
-words_off (b ∷ bytes) none = rw (ne_eqb b 32 none.0, words_off bytes none.1) refl
-
--- a token without a space after it is the last
-pub words_last : (bytes : List ℕ) → All (λ b. b ≢ 32) bytes → words_of bytes ≡ bytes ∷ []
-words_last bytes none = words_off bytes (recursion_from_All (λ b. b ≢ 32) bytes none)
-
 -- tokens with spaces between them are read as these tokens
-pub words_again : (word : List ℕ) (words : List (List ℕ)) → IsWord word → AllByRecursion IsWord words → words_of (spaced (word ∷ words)) ≡ word ∷ words
-words_again word [] h hs = words_off word h
-words_again word (v ∷ vs) h hs = rw (words_on word (spaced (v ∷ vs)) h, words_again v vs hs.0 hs.1) refl
-
-pub spaced_after : (word : List ℕ) (words : List (List ℕ)) → spaced (word ∷ words) ≡ word ++ after_spaces words
-spaced_after word [] = sym (append-nil word)
-spaced_after word (v ∷ vs) = ap (λ (l : List ℕ). word ++ 32 ∷ l) (spaced_after v vs)
-
-onto_first_spaced : (b : ℕ) (words : List (List ℕ)) → spaced (onto_first b words) ≡ b ∷ spaced words
-onto_first_spaced b [] = refl
-onto_first_spaced b (w ∷ []) = refl
-onto_first_spaced b (w ∷ v ∷ ws) = refl
-
--- a line has a first token
-words_some : (line : List ℕ) → (w : List ℕ) × (ws : List (List ℕ)) × (words_of line ≡ w ∷ ws)
-words_some [] = ([], [], refl)
-words_some (b ∷ line) = elim (eqb_tells b 32) [
-  | inl p ↦ ([], words_of line, rw p.0 refl)
-  | inr p ↦ let more = words_some line in (b ∷ more.0, more.1, rw (p.0, more.2) refl)
-]
-
--- the tokens of a line spell the line
-pub spaced-words_of : (line : List ℕ) → spaced (words_of line) ≡ line
-spaced-words_of [] = refl
-spaced-words_of (b ∷ line) = elim (eqb_tells b 32) [
-  | inl p ↦
-      let some = words_some line in
-      let rest : spaced (some.0 ∷ some.1) ≡ line = rw (← some.2) (spaced-words_of line) in
-      rw (p.0, some.2) (cc (p.1, rest))
-  | inr p ↦ rw (p.0, onto_first_spaced b (words_of line)) (ap (λ (l : List ℕ). b ∷ l) (spaced-words_of line))
-]
+pub words_again : (word : List ℕ) (words : List (List ℕ)) → IsWord word → AllByRecursion IsWord words → tokens_of (spaced (word ∷ words)) ≡ word ∷ words
+words_again word [] h hs = last_token word h
+words_again word (v ∷ vs) h hs = rw (cut_on 32 tokens_of tokens_cut word (spaced (v ∷ vs)) h, words_again v vs hs.0 hs.1) refl
 
 -- all bytes of the token are at least the digit 0
 abbrev IsBare : List ℕ → Type 0
@@ -119,10 +77,10 @@ MakeLine ([] ∷ words) = ⊥
 MakeLine ((b ∷ word) ∷ words) = IsSmall (b ∷ word) × AllByRecursion IsSmall words
 
 -- the tokens of a line are the tokens that were spelled
-pub words_of-line : (words : List (List ℕ)) → MakeLine words → words_of (spaced words) ≡ words
-words_of-line [] h = absurd h
-words_of-line ([] ∷ words) h = absurd h
-words_of-line ((b ∷ word) ∷ words) h = words_again (b ∷ word) words (bare_word (b ∷ word) h.0.0) (small_words words h.1)
+pub tokens_of-line : (words : List (List ℕ)) → MakeLine words → tokens_of (spaced words) ≡ words
+tokens_of-line [] h = absurd h
+tokens_of-line ([] ∷ words) h = absurd h
+tokens_of-line ((b ∷ word) ∷ words) h = words_again (b ∷ word) words (bare_word (b ∷ word) h.0.0) (small_words words h.1)
 
 -- the line has no line feed
 abbrev pub IsLine : List ℕ → Type 0
@@ -151,7 +109,7 @@ after_length (w ∷ ws) h =
 -- the line has no line feed and isn't passed over
 pub record IsKept (line : List ℕ) : Type 0 where
   pub one : IsLine line
-  pub kept : is_passed line ≡ false
+  pub kept : is_blank_or_comment line ≡ false
 
 pub made_kept : (words : List (List ℕ)) → MakeLine words → IsKept (spaced words)
 made_kept [] h = absurd h

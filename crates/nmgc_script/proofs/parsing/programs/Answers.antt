@@ -1,4 +1,4 @@
-use Rattle.nmgc_script.proofs.{Vocabulary.◌≡◌, Vocabulary.◌∙◌, Vocabulary.map, Vocabulary.ap, Vocabulary.arith, Vocabulary.Ok, Vocabulary.err_from_is_err_and, Vocabulary.words_of, Vocabulary.lines_of, Vocabulary.kept_from, Vocabulary.entry_at, Entries.starts, Entries.line_read, Entries.ok_read, Entries.err_read, Entries.within, Entries.begins, Entries.goes_on, Entries.fails, Entries.is_done}
+use Rattle.nmgc_script.proofs.{Vocabulary.◌≡◌, Vocabulary.◌∙◌, Vocabulary.map, Vocabulary.ap, Vocabulary.arith, Vocabulary.Ok, Vocabulary.err_from_is_err_and, Vocabulary.tokens_of, Vocabulary.lines_of, Vocabulary.kept_from, Vocabulary.entry_at, Entries.starts, Entries.line_read, Entries.ok_read, Entries.err_read, Entries.within, Entries.begins, Entries.goes_on, Entries.fails, Entries.is_done}
 use Rattle.nmgc_script.specs.declared.sections.Entry.TheVariants as entry
 use Rattle.nmgc_script.proofs.parsing.programs.Goals as goal
 
@@ -10,7 +10,7 @@ loop-number-init c = rw (
 
 pub returns-in_err-at_line : goal.returns-in_err-at_line
 returns-in_err-at_line c =
-    let words : map (λ w. w.now) c.deref.result.now ≡ words_of c.in-Some.line.now = ap (map (λ w. w.now)) c.deref.ensures.value ∙ c.in_ok-cut_words.ensures in
+    let words : map (λ w. w.now) c.deref.result.now ≡ tokens_of c.in-Some.line.now = ap (map (λ w. w.now)) c.deref.ensures.value ∙ c.in_ok-cut_tokens_within.ensures in
     let read = line_read (entry_at c.args.version c.args.config.now c.loop-number.begun) c.in-Some.number c.in-Some.line.now _ c.read_entry.result
     c.at_line.result words c.read_entry.ensures.gives c.at_line.ensures in
     let p = err_from_is_err_and c.from_residual-in_err-at_line.result c.from_residual-in_err-at_line.ensures.1 in
@@ -21,7 +21,7 @@ returns-in_err-at_line c =
 
 pub loop-number-preserved-in-Section : goal.loop-number-preserved-in-Section
 loop-number-preserved-in-Section c =
-    let words : map (λ w. w.now) c.deref.result.now ≡ words_of c.in-Some.line.now = ap (map (λ w. w.now)) c.deref.ensures.value ∙ c.in_ok-cut_words.ensures in
+    let words : map (λ w. w.now) c.deref.result.now ≡ tokens_of c.in-Some.line.now = ap (map (λ w. w.now)) c.deref.ensures.value ∙ c.in_ok-cut_tokens_within.ensures in
     let read = line_read (entry_at c.args.version c.args.config.now c.loop-number.begun) c.in-Some.number c.in-Some.line.now _ c.read_entry.result
     c.at_line.result words c.read_entry.ensures.gives c.at_line.ensures in
     let is : c.at_line.result ≡ Ok entry.Section = c.in_ok-at_line.was ∙ ap Ok c.in-Section.is in
@@ -33,7 +33,7 @@ loop-number-preserved-in-Section c =
 
 pub loop-number-preserved : goal.loop-number-preserved
 loop-number-preserved c =
-    let words : map (λ w. w.now) c.deref.result.now ≡ words_of c.in-Some.line.now = ap (map (λ w. w.now)) c.deref.ensures.value ∙ c.in_ok-cut_words.ensures in
+    let words : map (λ w. w.now) c.deref.result.now ≡ tokens_of c.in-Some.line.now = ap (map (λ w. w.now)) c.deref.ensures.value ∙ c.in_ok-cut_tokens_within.ensures in
     let read = line_read (entry_at c.args.version c.args.config.now c.loop-number.begun) c.in-Some.number c.in-Some.line.now _ c.read_entry.result
     c.at_line.result words c.read_entry.ensures.gives c.at_line.ensures in
     let is : c.at_line.result ≡ Ok (entry.Order c.in-Order.command) = c.in_ok-at_line.was ∙ ap Ok c.in-Order.is in

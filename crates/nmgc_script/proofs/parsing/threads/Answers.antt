@@ -1,4 +1,4 @@
-use Rattle.nmgc_script.proofs.{Vocabulary.◌≡◌, Vocabulary.◌∙◌, Vocabulary.map, Vocabulary.ap, Vocabulary.err_from_is_err_and, Vocabulary.words_of, Vocabulary.section_at, Entries.line_read, Entries.ok_read, Entries.err_read, Entries.no_section, Entries.first_fails, Entries.first_begins}
+use Rattle.nmgc_script.proofs.{Vocabulary.◌≡◌, Vocabulary.◌∙◌, Vocabulary.map, Vocabulary.ap, Vocabulary.err_from_is_err_and, Vocabulary.tokens_of, Vocabulary.section_at, Entries.line_read, Entries.ok_read, Entries.err_read, Entries.no_section, Entries.first_fails, Entries.first_begins}
 use Rattle.nmgc_script.proofs.parsing.threads.Goals as goal
 
 pub returns-in_default : goal.returns-in_default
@@ -6,7 +6,7 @@ returns-in_default c = no_section _ c.number.result c.args.version c.args.config
 
 pub returns-in_err-at_line : goal.returns-in_err-at_line
 returns-in_err-at_line c =
-    let words : map (λ w. w.now) c.deref.result.now ≡ words_of c.in-Some.line.now = ap (map (λ w. w.now)) c.deref.ensures.value ∙ c.in_ok-cut_words.ensures in
+    let words : map (λ w. w.now) c.deref.result.now ≡ tokens_of c.in-Some.line.now = ap (map (λ w. w.now)) c.deref.ensures.value ∙ c.in_ok-cut_tokens_within.ensures in
     let read = line_read (section_at c.args.version c.args.config.now 0) c.in-Some.number c.in-Some.line.now _ c.section.result c.at_line.result
     words c.section.ensures.gives c.at_line.ensures in
     let p = err_from_is_err_and c.from_residual-in_err-at_line.result c.from_residual-in_err-at_line.ensures.1 in
@@ -17,7 +17,7 @@ returns-in_err-at_line c =
 
 pub returns : goal.returns
 returns c =
-    let words : map (λ w. w.now) c.deref.result.now ≡ words_of c.in-Some.line.now = ap (map (λ w. w.now)) c.deref.ensures.value ∙ c.in_ok-cut_words.ensures in
+    let words : map (λ w. w.now) c.deref.result.now ≡ tokens_of c.in-Some.line.now = ap (map (λ w. w.now)) c.deref.ensures.value ∙ c.in_ok-cut_tokens_within.ensures in
     let read = line_read (section_at c.args.version c.args.config.now 0) c.in-Some.number c.in-Some.line.now _ c.section.result c.at_line.result
     words c.section.ensures.gives c.at_line.ensures in
     first_begins _ c.args.version c.args.config.now _ (

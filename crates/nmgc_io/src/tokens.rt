@@ -1,0 +1,69 @@
+//! Lines and tokens of a text.
+//!
+//! A text is cut at line feeds, and the last line feed may be missing. A line is cut at single spaces, so two spaces in a row
+//! make an empty token.
+//!
+//! Most lines are shorter than the group of bytes that is searched at once. So a line is cut together with the text after it,
+//! if there is any, which fills the group.
+ghost use Rattle.std.specs.Prelude.{◌≡◌, ◌<◌, ◌∷◌, [], map, length, take, OnOk, IfSome, IfNone};
+ghost use Rattle.nmgc_io.specs.Text.{lines_of, tokens_of, is_blank_or_comment};
+
+use crate::cutting::{cut, cut_within};
+use nmgc_lists::NoMemory;
+
+/// Splits a text into its first line, without its line feed, and the rest after it. Returns `None` exactly if the text is
+/// empty. Takes no memory.
+#[inline]
+pub fn split_line(bytes: &[u8]) -> Option<(&[u8], &[u8])>
+    ensures line { IfSome result (λ parts. lines_of bytes.now ≡ parts.0.now ∷ lines_of parts.1.now) }
+    ensures less { IfSome result (λ parts. length parts.1.now < length bytes.now) }
+    ensures front { IfSome result (λ parts. parts.0.now ≡ take (length parts.0.now) bytes.now) }
+    ensures none { IfNone result (lines_of bytes.now ≡ []) }
+{
+    if bytes.is_empty() {
+        return None;
+    }
+    match cut(bytes, b'\n') {
+        Some(parts) => Some(parts),
+        None => Some((bytes, &[])),
+    }
+}
+
+/// Whether a line is empty or a comment, which begins with `#`. Takes no memory.
+#[inline]
+pub fn is_blank_or_comment(line: &[u8]) -> bool
+    ensures { result ≡ is_blank_or_comment line.now }
+{
+    match line {
+        [] => true,
+        [first, ..] => *first == b'#',
+    }
+}
+
+/// Replaces the content of `tokens` by the tokens of `line`.
+pub fn cut_tokens<'a>(tokens: &mut Vec<&'a [u8]>, line: &'a [u8]) -> Result<(), NoMemory>
+    ensures { OnOk result (map (λ t. t.now) tokens.new.items ≡ tokens_of line.now) }
+{
+    cut_tokens_within(tokens, line, line)
+}
+
+/// Replaces the content of `tokens` by the tokens of `line`, which is the beginning of `text`. A long `text` makes it faster.
+pub fn cut_tokens_within<'a>(
+    tokens: &mut Vec<&'a [u8]>,
+    line: &'a [u8],
+    text: &[u8],
+) -> Result<(), NoMemory>
+    requires { line.now ≡ take (length line.now) text.now }
+    ensures { OnOk result (map (λ t. t.now) tokens.new.items ≡ tokens_of line.now) }
+{
+    tokens.clear();
+    let mut rest = line;
+    let mut from = 0;
+    while let Some((token, after)) = cut_within(text, from, rest, b' ') {
+        tokens.push(token)?;
+        from += token.len() + 1;
+        rest = after;
+    }
+    tokens.push(rest)?;
+    Ok(())
+}
