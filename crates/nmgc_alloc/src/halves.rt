@@ -66,8 +66,8 @@ fn sweep_part<F: Fn(u8, u32)>(
     }
 }
 
-// Sweeps two parts in two threads, and counts the results of each. The calling thread sweeps the lower part, which isn't
-// smaller. If the upper part is empty, no thread starts.
+// Sweeps two parts in two threads, and counts the results of each. The calling thread sweeps the lower part, which may have
+// one waiting segment more. If the upper part is empty, no thread starts.
 fn sweep_both<R: Threads + Sync, F: Fn(u8, u32) + Sync>(
     rt: &R,
     before: &F,

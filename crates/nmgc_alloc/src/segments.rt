@@ -3,8 +3,8 @@
 //! Placing must take constant time except for the search within one segment, so no object needs a search through all
 //! segments. A table has the number of each mutator's current segment of each class. Another has a tally of each kind of
 //! segment that is searched for: free segments, segments to be swept, and active segments of a class. A tally has their
-//! number, and ranges without any. So there is no search if none would be found, and each search goes on where the last one
-//! ended. The counts take constant time, since each is updated when a segment changes its state.
+//! number, and ranges without any. So the code doesn't search for a kind without segments, and each search continues the
+//! last. The counts take constant time, since each is updated when a segment changes its state.
 //!
 //! Easy to get wrong: the number in the table may be of a segment that has been filled or retired since, so the code reads
 //! its state. A missing current segment is noticed only because each new one is written to the table.

@@ -2,6 +2,6 @@
 use Rattle.std.specs.Prelude.{◌<◌, ◌^◌}
 use Rattle.nmgc_journal.specs.{declared.report.Report.Report, Summary.command_count}
 
--- the report answers few enough commands to be counted in a summary
+-- the report answers fewer than 2^64 commands, so a summary can count them
 abbrev pub HasCount : Report → Type 0
 HasCount report = command_count report.rounds < 2 ^ 64

@@ -7,7 +7,7 @@ use Rattle.nmgc_run_spec.specs.Lawful.{IsLawful}
 use Rattle.nmgc_pmark.specs.{Strong.roots_of, Claims.AreClaims}
 use Rattle.nmgc_cli.specs.Marks.{last_world}
 
--- the markers' claims in the last world, from its roots, for each script within the limits for which the report is lawful
+-- the claims of markers that begin at the last world's roots, for each script within the limits that makes the report lawful
 abbrev pub AreClaimsOf : ℕ → Report → List (List Name) → Type 0
 AreClaimsOf markers report by = (script : Script) → IsInLimits script → (lawful : IsLawful script report) →
     AreClaims (last_world script report lawful) (roots_of (last_world script report lawful)) markers by

@@ -20,13 +20,13 @@ marks_lines markers names end = (codes "marks " ++ decimal markers ++ 10 ∷ [])
 abbrev pub last_world : (script : Script) (report : Report) → IsLawful script report → World
 last_world script report lawful = (last_state lawful.run).world
 
--- the text is the lines of the names, in order, that strong fields reach in the last world from its mutators' registers and
--- queues and from the slots of g
+-- the text has the lines of these names, in order. They are all names that strong fields reach in the last world, from its
+-- registers and queues and from the slots of g
 pub record IsMarksOf (markers : ℕ) (script : Script) (report : Report) (lawful : IsLawful script report) (text : List ℕ) : Type 0 where
   pub names : List Name
   pub reached : Lists (IsStrong (last_world script report lawful) (roots_of (last_world script report lawful))) names
   pub text_is : text ≡ marks_lines markers names report.end
 
--- the text of `marks N`: the last world's marked names, for each script within the limits for which the report is lawful
+-- the text of `marks N`: the last world's marked names, for each script within the limits that makes the report lawful
 abbrev pub IsMarksText : ℕ → Report → List ℕ → Type 0
 IsMarksText markers report text = (script : Script) → IsInLimits script → (lawful : IsLawful script report) → IsMarksOf markers script report lawful text

@@ -31,7 +31,7 @@ IsRead old new bytes = IsReadWithin most_script_bytes old new bytes
 abbrev pub SpellsWorld : World → List ℕ → Type 0
 SpellsWorld w text = (image : shown.Image) × Shows w image × spelling.Spells text image
 
--- the bytes spell an image, and the outcome is the text of an answer for this name, certified in the image and so right
+-- the bytes spell an image, and the output has the text of a certified, and so right, answer for this name in this image
 pub record IsPathOf (name : Name) (bytes : List ℕ) (output : Output) : Type 0 where
   pub image : shown.Image
   pub spells : spelling.Spells bytes image
@@ -47,19 +47,19 @@ pub record SpellsOnly (bytes : List ℕ) (script : Script) : Type 0 where
   pub spells : Spells bytes script
   pub only : (other : Script) → Spells bytes other → other ≡ script
 
--- the bytes spell no script, and this is the first bad line with its cause. They are no more than their version line allows
+-- the bytes are no more than their version line allows, and spell no script; this is the first bad line, with its cause
 pub record SpellsNone (bytes : List ℕ) (line : ℕ) (c : Cause) : Type 0 where
   pub short : length bytes ≤ most_bytes bytes
   pub none : (script : Script) → Spells bytes script → ⊥
   pub fault : IsFaultOfText (end_of bytes) (kept_lines bytes) line c
 
--- the output is the plain spelling of the script's upgrade
+-- the output is `Done`, with the plain spelling of the script's upgrade and no report
 pub record IsUpgraded (script : Script) (output : Output) : Type 0 where
   pub text : text_bytes output.text ≡ plain (upgraded script)
   pub status : output.status ≡ Done
   pub none : output.report ≡ None
 
--- the answer to a script's bytes: the result (`Gives`), a run's report or an upgrade's spelling, or a refusal with its cause
+-- the answer to a script's bytes: a refusal with its cause, or a result by `Gives` (a run's report, or an upgrade's output)
 abbrev pub AnswersBytes : {X : Type 0} → (Script → X → Type 0) → List ℕ → Result X Refusal → Type 0
 AnswersBytes Gives bytes (Ok given) = (script : Script) × SpellsOnly bytes script × Gives script given
 AnswersBytes Gives bytes (Err (no.Bad line c)) = SpellsNone bytes line c
@@ -67,13 +67,13 @@ AnswersBytes Gives bytes (Err no.TooLong) = most_bytes bytes < length bytes
 AnswersBytes Gives bytes (Err no.NoMemory) = Unit {0}
 AnswersBytes Gives bytes (Err _) = ⊥
 
--- a script is too long: one byte more was taken than any script may have, or all bytes left in the source were read, and they
--- are more than a script that begins so may have
+-- a script is too long. Either one byte more was taken than any script may have. Or all bytes left in the source were read,
+-- and are more than a script of their version may have
 abbrev pub IsTooLong : Option (List ℕ) → Option (List ℕ) → Type 0
 IsTooLong old new = Takes old new (most_script_bytes + 1) ⊎ ((bytes : List ℕ) × IsRead old new bytes × (most_bytes bytes < length bytes))
 
--- the answer to a script that is read, by the bytes left in the source before and after and by a rise of its count of faults.
--- Each refusal has its cause, the same for all tasks that read a script.
+-- the answer of a task that reads a script, with the bytes left in the source before and after, and with the claim that the
+-- source's count of faults rose. Each refusal has its cause, the same for all such tasks.
 abbrev pub AnswersScript : {X : Type 0} → (Script → X → Type 0) → Option (List ℕ) → Option (List ℕ) → Type 0 → Result X Refusal → Type 0
 AnswersScript Gives old new rose (Err no.Usage) = ⊥
 AnswersScript Gives old new rose (Err no.ReadFault) = TakesUpTo old new most_script_bytes × rose
@@ -104,14 +104,14 @@ IsSummary batches report text = text ≡ summary_text batches report
 abbrev pub IsImageText : Report → List ℕ → Type 0
 IsImageText report text = (script : Script) → IsInLimits script → (run : IsRunOf script report) → SpellsWorld (last_state run.lawful.run).world text
 
--- the answer to an image's bytes, for a path to this name: the text of a certified answer, or the first bad line
+-- the answer of `retain NAME` to an image's bytes: the text of a certified answer, or the first bad line, or `NoMemory`
 abbrev pub AnswersImage : Name → List ℕ → Answer → Type 0
 AnswersImage name bytes (Ok output) = IsPathOf name bytes output
 AnswersImage name bytes (Err (no.BadImage line)) = IsFirstBad bytes line
 AnswersImage name bytes (Err no.NoMemory) = Unit {0}
 AnswersImage name bytes (Err _) = ⊥
 
--- the answer to `retain NAME`, by the bytes left in the source before and after and by a rise of its count of faults
+-- the answer of `retain NAME`, with the bytes left in the source before and after, and the claim that its fault count rose
 abbrev pub AnswersRetain : Name → Option (List ℕ) → Option (List ℕ) → Type 0 → Answer → Type 0
 AnswersRetain name old new rose (Err no.Usage) = ⊥
 AnswersRetain name old new rose (Err no.ReadFault) = TakesUpTo old new MAX_IMAGE_BYTES × rose
@@ -134,23 +134,23 @@ Answers Image old new rose answer = AnswersWithReport IsImageText (AnswersScript
 Answers (Retain name) old new rose answer = AnswersRetain name old new rose answer
 Answers (Marks markers) old new rose answer = AnswersWithReport (IsMarksText markers) (AnswersScript IsRan old new rose) answer
 
--- the answer to these arguments, each with its cause: `Usage` exactly if they are wrong, and then nothing is read
+-- an answer to these arguments, with its cause. It is `Usage` exactly if they are wrong, and then nothing is read
 abbrev pub IsAnswer : List (List ℕ) → Option (List ℕ) → Option (List ℕ) → Type 0 → Answer → Type 0
 IsAnswer arguments old new rose (Err no.Usage) = IsWrong arguments × Keeps old new
 IsAnswer arguments old new rose (Ok output) = (task : Task) × Asks arguments task × Answers task old new rose (Ok output)
 IsAnswer arguments old new rose (Err refusal) = (task : Task) × Asks arguments task × Answers task old new rose (Err refusal)
 
--- the text was written: whole, with the intended status; or a front of it, with `WriteFault`, and the sink's count rose
+-- the whole text was written, with the intended status; or a prefix was written, with `WriteFault`, and the sink's count rose
 abbrev pub IsWritten : Option (List ℕ) → Option (List ℕ) → Type 0 → Status → List ℕ → Status → Type 0
 IsWritten old new rose reported text status = shared.IsWritten WriteFault old new rose reported text status
 
--- an answer was written, and this is the resulting status and report
+-- an answer was written, and these are the resulting status and report
 pub record Ends (old new : Option (List ℕ)) (rose : Type 0) (answer : Answer) (status : Status) (report : Option Report) : Type 0 where
   pub report_of : report ≡ answer_report answer
   pub written : IsWritten old new rose (answer_status answer) (answer_text answer) status
 
--- a report of `run`: the source's bytes were read to their end and spell one script. The report is of a run of it, and so
--- lawful. Its text was written (`IsWritten`), with the status of its end
+-- a report of `run`: the source's bytes were read to their end and spell one script. The report is a report of a run of this
+-- script, and so lawful. Its text was written (`IsWritten`), with the status of its end
 pub record IsReportOfRun (arguments : List (List ℕ)) (left left' taken taken' : Option (List ℕ)) (rose : Type 0) (status : Status) (report : Report) : Type 0 where
   pub asked : Asks arguments Run
   pub bytes : List ℕ
@@ -160,8 +160,8 @@ pub record IsReportOfRun (arguments : List (List ℕ)) (left left' taken taken' 
   pub run : IsRunOf script report
   pub written : IsWritten taken taken' rose (status_of report.end) (report_text report) status
 
--- a report of `bench N`: nothing was read, and the report is of a run of the bench's script, and so lawful. Its summary was
--- written (`IsWritten`), with the status of its end
+-- a report of `bench N`: nothing was read. The report is a report of a run of the bench's script, and so lawful. Its summary
+-- was written (`IsWritten`), with the status of its end
 pub record IsReportOfBench (arguments : List (List ℕ)) (left left' taken taken' : Option (List ℕ)) (rose : Type 0) (status : Status) (report : Report) :
     Type 0 where
   pub batches : ℕ
@@ -170,8 +170,8 @@ pub record IsReportOfBench (arguments : List (List ℕ)) (left left' taken taken
   pub run : IsRunOf (bench_script batches) report
   pub written : IsWritten taken taken' rose (status_of report.end) (summary_text batches report) status
 
--- a report of `image`: the source's bytes were read to their end and spell one script. The report is of a run of it, and so
--- lawful. The image's spelling that shows the last world was written (`IsWritten`), with the status of its end
+-- a report of `image`: the source's bytes were read to their end and spell one script. The report is a report of a run of it,
+-- and so lawful. The spelling of the image that shows the last world was written (`IsWritten`), with the status of its end
 pub record IsReportOfImage (arguments : List (List ℕ)) (left left' taken taken' : Option (List ℕ)) (rose : Type 0) (status : Status) (report : Report) :
     Type 0 where
   pub asked : Asks arguments Image
@@ -184,8 +184,8 @@ pub record IsReportOfImage (arguments : List (List ℕ)) (left left' taken taken
   pub shows : SpellsWorld (last_state run.lawful.run).world text
   pub written : IsWritten taken taken' rose (status_of report.end) text status
 
--- a report of `marks N`: as of `run`, but the text is lines of names. They are the names that strong fields reach in the
--- run's last world from its registers and queues, and from the slots of g
+-- a report of `marks N`: like a report of `run`, but with another text. The text lists the names that strong fields reach in
+-- the run's last world, from its registers and queues and from the slots of g
 pub record IsReportOfMarks (arguments : List (List ℕ)) (left left' taken taken' : Option (List ℕ)) (rose : Type 0) (status : Status) (report : Report) :
     Type 0 where
   pub markers : ℕ
@@ -199,33 +199,33 @@ pub record IsReportOfMarks (arguments : List (List ℕ)) (left left' taken taken
   pub is_text : IsMarksOf markers script report run.lawful text
   pub written : IsWritten taken taken' rose (status_of report.end) text status
 
--- a report of `run`, `bench N`, `image` or `marks N`: it follows from the answer (`IsAnswer`, `Ends`), in one piece for readers
+-- a report of `run`, `bench N`, `image` or `marks N`: consequences of the answer (`IsAnswer`, `Ends`), collected for readers
 abbrev pub IsReport : List (List ℕ) → Option (List ℕ) → Option (List ℕ) → Option (List ℕ) → Option (List ℕ) → Type 0 → Status → Report → Type 0
 IsReport arguments left left' taken taken' rose status report = IsReportOfRun arguments left left' taken taken' rose status report ⊎
     (IsReportOfBench arguments left left' taken taken' rose status report ⊎
     (IsReportOfImage arguments left left' taken taken' rose status report ⊎ IsReportOfMarks arguments left left' taken taken' rose status report))
 
--- an upgrade, in one piece. Arguments that ask for it leave no report, and never a full heap. With `Done`, the source's bytes
--- were read to their end and spell one script, and the plain spelling of its upgrade was written
+-- an upgrade, collected for readers. If arguments ask for it, there is no report, and the status isn't `HeapFull`. With
+-- `Done`, the source's bytes were read to their end and spell one script, and the plain spelling of its upgrade was written
 abbrev pub IsUpgrade : List (List ℕ) → Option (List ℕ) → Option (List ℕ) → Option (List ℕ) → Option (List ℕ) → Status → Option Report → Type 0
 IsUpgrade arguments left left' taken taken' status report = Asks arguments Upgrade → (report ≡ None) × (status ≢ HeapFull)
     × (status ≡ Done → (bytes : List ℕ) × IsRead left left' bytes × (script : Script) × SpellsOnly bytes script ×
     Appends taken taken' (plain (upgraded script)))
 
--- a path, in one piece. Arguments that ask for it leave no report, and never a full heap. With `Done`, the source's bytes
--- were read to their end and spell an image, and the text of an answer that is certified in it, and so right, was written
+-- a path, collected for readers. If arguments ask for it, there is no report, and the status isn't `HeapFull`. With `Done`,
+-- the source's bytes were read to their end and spell an image, and the text of an answer certified in this image was written
 abbrev pub IsPath : List (List ℕ) → Option (List ℕ) → Option (List ℕ) → Option (List ℕ) → Option (List ℕ) → Status → Option Report → Type 0
 IsPath arguments left left' taken taken' status report = (name : Name) → Asks arguments (Retain name) → (report ≡ None) × (status ≢ HeapFull)
     × (status ≡ Done → (bytes : List ℕ) × IsReadWithin MAX_IMAGE_BYTES left left' bytes × (image : shown.Image) × spelling.Spells bytes image ×
     (answer : Retained) × IsCertified image name answer × Appends taken taken' (retained_text answer))
 
--- the report is of a run that ended as heap full. Each run of the report, also the run of the clause `report`, ended so by
--- its cause: its last stop is crowded
+-- the report is a report of a run that ended as `HeapFull`. Each run of the report, including the run of the clause `report`,
+-- has the cause: its last stop is crowded
 abbrev pub IsFullOf : Script → Option Report → Type 0
 IsFullOf script None = ⊥
 IsFullOf script (Some report) = IsRunOf script report × IsHeapFull report.end × ((run : IsRunOf script report) → IsFullRun script report run)
 
--- a script is run through: `Done`, or `HeapFull` with a report of a run that ended so by its cause, or `NoMemory`
+-- a script is run through: the status is `Done` or `NoMemory`, or `HeapFull` with a report whose runs have its cause
 abbrev pub IsRunThrough : Script → Status → Option Report → Type 0
 IsRunThrough script status report = (status ≡ NoMemory) ⊎ (status ≡ Done) ⊎ ((status ≡ HeapFull) × IsFullOf script report)
 
@@ -240,13 +240,13 @@ abbrev pub IsBenchComplete : List (List ℕ) → Type 0 → Status → Option Re
 IsBenchComplete arguments write_fault status report = (batches : ℕ) → Asks arguments (Bench batches) → (write_fault → ⊥) →
     IsRunThrough (bench_script batches) status report
 
--- completeness of an upgrade: as of a run, a script within its version's limit gives `Done`, or memory runs out
+-- completeness of an upgrade: without a fault, a script within its version's limit gives `Done` or `NoMemory`
 abbrev pub IsUpgradeComplete : List (List ℕ) → Option (List ℕ) → Type 0 → Type 0 → Status → Type 0
 IsUpgradeComplete arguments left read_fault write_fault status = (bytes : List ℕ) (script : Script) → Asks arguments Upgrade → left ≡ Some bytes →
     length bytes ≤ most_bytes bytes → Spells bytes script
     → (read_fault → ⊥) → (write_fault → ⊥) → (status ≡ NoMemory) ⊎ (status ≡ Done)
 
--- completeness of a path: without a fault of source or sink, any name and an image in the limit give `Done` or `NoMemory`
+-- completeness of a path: without a fault, an image within the limit gives `Done` or `NoMemory`, for any name
 abbrev pub IsRetainComplete : List (List ℕ) → Option (List ℕ) → Type 0 → Type 0 → Status → Type 0
 IsRetainComplete arguments left read_fault write_fault status = (name : Name) (bytes : List ℕ) (image : shown.Image) → Asks arguments (Retain name) →
     left ≡ Some bytes → length bytes ≤ MAX_IMAGE_BYTES → spelling.Spells bytes image

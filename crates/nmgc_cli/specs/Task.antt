@@ -10,7 +10,7 @@ use Rattle.nmgc_cli.specs.{declared.task.Task.Task, declared.task.Task.TheVarian
 abbrev pub IsBench : ℕ → Type 0
 IsBench batches = (1 ≤ batches) × (batches ≤ most_batches)
 
--- this number of markers may mark
+-- `marks N` may have this number of markers
 abbrev pub AreMarkers : ℕ → Type 0
 AreMarkers markers = (1 ≤ markers) × (markers ≤ MOST_MARKERS)
 
@@ -23,7 +23,7 @@ Asks arguments Image = arguments ≡ codes "image" ∷ []
 Asks arguments (Retain name) = (arguments ≡ codes "retain" ∷ name_text name ∷ []) × IsName name
 Asks arguments (Marks markers) = (arguments ≡ codes "marks" ∷ decimal markers ∷ []) × AreMarkers markers
 
--- the task can be done
+-- the task's number, if it has one, is allowed: the batches of a bench, or the markers of `marks N`
 abbrev pub CanBeDone : Task → Type 0
 CanBeDone Run = Unit {0}
 CanBeDone (Bench batches) = IsBench batches

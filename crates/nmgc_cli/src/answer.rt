@@ -1,8 +1,8 @@
 //! The reason why no task was done: an answer is a refusal, or the output of a task that was done.
 //!
-//! An answer is settled before the sink is touched. Its status, its report and its text are functions of it, so they always
-//! agree: no refusal is `Done`, and no report goes with a refusal. Easy to get wrong: there may be no memory for a text that
-//! takes memory. The answer is then `NoMemory`, whose own text takes none.
+//! An answer is settled before the sink is touched. Its status, its report and its text are functions of the answer, so they
+//! always agree: no refusal is `Done`, and no report goes with a refusal. Easy to get wrong: there may be no memory for the
+//! text of a bad line. The answer is then `NoMemory`, whose own text takes none.
 ghost use Rattle.std.specs.Prelude.{◌≡◌};
 ghost use Rattle.nmgc_cli.specs.{Answer.refusal_status, Answer.read_refusal, Answer.script_refusal, Answer.image_refusal, declared.answer.Refusal.TheVariants.NoMemory as no_memory};
 

@@ -1,8 +1,8 @@
 //! The bench: the arguments that ask for it, and its report.
 //!
-//! Nothing is read for a bench: its script is made from the number of batches alone. The report is of a run like any other,
-//! so all proofs about runs hold of it; its summary is written in place of its text. Easy to get wrong: `bench 0` and `bench
-//! 01` are wrong arguments, like `bench 101`.
+//! A bench reads nothing: its script is made from the number of batches alone. Its report is a report of a run like any
+//! other, so all proofs about runs hold for it. The report's summary is written in place of its text. Easy to get wrong:
+//! `bench 0` and `bench 01` are wrong arguments, like `bench 101`.
 ghost use Rattle.std.specs.Prelude.{◌≡◌, ℕ, [], ◌∷◌, decimal, map, string_bytes, IfOk, IfSome, IfNone};
 ghost use Rattle.nmgc_cli.specs.{Output.AnswersBench, Output.AnswersWithReport, Output.IsSummary, Bench.HasCount, Task.Asks, Task.IsBench, declared.task.Task.TheVariants.Bench};
 ghost use Rattle.nmgc_run_spec.specs.Crowded.{IsRunOf};
@@ -41,7 +41,7 @@ fn batches_named(name: &str, number: &str) -> Option<u32>
     batches_in(number.as_bytes())
 }
 
-// Returns the number of batches that a token spells, or `None` exactly if no bench may have what it spells.
+// Returns the number of batches that a token spells, or `None` exactly if it spells no allowed number.
 #[tactic(auto, using(crate::proofs::Asking::one_number))]
 fn batches_in(argument: &[u8]) -> Option<u32>
     ensures found { IfSome result (λ batches. (argument.now ≡ decimal batches) × IsBench batches) }
@@ -64,7 +64,7 @@ pub fn bench<R: Threads + Sync>(alloc: Global, rt: &R, batches: u32) -> Result<O
     Ok(Output::of_report(report, text))
 }
 
-// Returns the report of a bench of `batches` batches. Since the report is lawful, it answers fewer than 2^64 commands.
+// Runs a bench of `batches` batches, and returns its report. The report is lawful, so it answers fewer than 2^64 commands.
 fn bench_report<R: Threads + Sync>(alloc: Global, rt: &R, batches: u32) -> Result<Report, NoMemory>
     requires { IsBench batches }
     ensures run { IfOk result (λ report. IsRunOf (bench_script batches) report) }

@@ -9,10 +9,9 @@ use nmgc_io::{Sink, Source};
 use std::alloc::Global;
 use std::thread::Threads;
 
-/// Runs the program on a command line, and returns the number with which the process ends. The arguments are passed on and
-/// answered, the answer is written, and the number is the number of the status. For wrong arguments and for a bench the
-/// source stays as it is. If there is no memory for the arguments, the number is 7, and nothing is read or written (no clause
-/// gives this cause).
+/// Does the task that the command line's arguments ask for, and writes its text to the sink. Returns the number of the
+/// status, with which the process ends. For wrong arguments and for a bench the source stays as it is. If there is no memory
+/// for the arguments, the number is 7, and nothing is read or written (no clause gives this cause).
 pub fn program<R: Threads + Sync, L: CommandLine, S: Source, K: Sink>(
     alloc: Global,
     rt: &R,

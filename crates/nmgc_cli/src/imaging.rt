@@ -26,12 +26,12 @@ pub fn image<R: Threads + Sync, S: Source>(
     Ok(Output::of_report(report, text))
 }
 
-// Returns the text of the image that shows the heap of a report.
+// Returns the text of the image that shows the heap that the report's run left.
 fn image_of(alloc: Global, report: &Report) -> Result<Vec<u8>, NoMemory>
     requires { IsOfScript report.now }
     ensures { IfOk result (λ text. IsImageText report.now text.items) }
 {
-    // The law that the heap of a run represents a world asks for sound segments. This call gives the proof that they are.
+    // The law that a run's heap represents a world requires sound segments. This call gives the proof that they are sound.
     let _layout = report.segments.layout();
     write_image(alloc, report)
 }

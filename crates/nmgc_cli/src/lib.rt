@@ -1,9 +1,9 @@
 //! The program `nmgc` as a library: the top call, over any command line, source and sink.
 //!
-//! `nmgc` does the task that the arguments ask for, or reports why not. For example, it reads a script, runs it and writes
-//! the report's text. Its contract is the theorem of the repository: the bytes read, the replies, the bytes written, and the
-//! cause of each refusal. `program` takes the arguments from a command line before it, and returns the number of the status
-//! after it. The run is the collector's (`nmgc_cycle`).
+//! `nmgc` does the task that the arguments ask for, or reports why it can't. For example, it reads a script, runs it and
+//! writes the report's text. Its contract is the theorem of the repository: the bytes read, the replies, the bytes written,
+//! and the cause of each refusal. `program` takes the arguments from a command line, calls `nmgc`, and returns the number of
+//! the status. Runs are the collector's (`nmgc_cycle`).
 //!
 //! - `task`: the tasks that the arguments of the command line ask for.
 //! - `top`: the top call. `answer`, `output`, `message`: the answer, and its output.

@@ -1,9 +1,9 @@
 //! The subcommand `marks N`: several markers mark the heap that a run leaves.
 //!
-//! The run is as for `run`. After its end the heap is no longer written. So several markers mark side by side all objects
-//! that strong fields reach from the registers, the finaliser queues and the slots of g (`nmgc_pmark`). Their names are
-//! written in place of the report's text: they are the same for any number of markers. Easy to get wrong: a report's words
-//! can't be read by several threads at once, since a closed table may not be shared. They are copied first.
+//! The run is as for `run`. After its end the heap is no longer written. So several markers can mark side by side all objects
+//! that strong fields reach from the registers, the finaliser queues and the slots of g (`nmgc_pmark`). The names of these
+//! objects are written in place of the report's text: they are the same for any number of markers. Easy to get wrong: several
+//! threads can't read a report's words at once, since a closed table may not be shared. The words are copied first.
 ghost use Rattle.std.specs.Prelude.{◌≡◌, ℕ, [], ◌∷◌, ◌++◌, decimal, map, string_bytes, IfOk, IfSome, IfNone, OnOk};
 ghost use Rattle.std.specs.List.{flat_map};
 ghost use Rattle.nmgc_pmark.specs.Stops.{root_words};
@@ -75,8 +75,8 @@ pub fn marks<R: Threads + Sync, S: Source>(
     Ok(Output::of_report(report, text))
 }
 
-/// Returns the text of `marks N`: the number of markers, the number of names that they reached, each of the names in order,
-/// and the last line of the report. Takes memory for the heap's words and for the markers, and for the text.
+/// Lets `markers` markers mark the heap that a run left, and returns the text of `marks N`. It has the numbers of markers and
+/// of names reached, the names in order, and the report's last line. Takes memory for heap words, markers and text.
 pub fn marks_text<R: Threads + Sync>(
     alloc: Global,
     rt: &R,
@@ -92,9 +92,9 @@ pub fn marks_text<R: Threads + Sync>(
     lines(alloc, markers, names.items(), report.end)
 }
 
-/// Returns the claims of `markers` markers in the heap that a run left. Each marker passes `gate` before each object. The
-/// copy is for the threads: a closed table and its row of words aren't `Sync`. A test calls it under a gate at which two
-/// markers meet. Takes memory for a copy of the heap's words, and for the markers.
+/// Lets `markers` markers mark the heap that a run left, and returns their claims: for each marker, the names that it marked.
+/// Each marker passes `gate` before each object; a test has a gate at which two markers meet. Takes memory for the markers
+/// and for a copy of the heap's words. The threads need the copy: a closed table and its row of words aren't `Sync`.
 pub fn claims_of<R: Threads + Sync, G: Gate>(
     alloc: Global,
     rt: &R,
@@ -107,7 +107,7 @@ pub fn claims_of<R: Threads + Sync, G: Gate>(
     ensures { IfOk result (λ claims. AreClaimsOf markers report.now claims.by) }
 {
     a_stop_is_stopped();
-    // The law that the heap of a run represents a world asks for sound segments. This call gives the proof that they are.
+    // The law that a run's heap represents a world requires sound segments. This call gives the proof that they are sound.
     let _ = report.segments.layout();
     let words = copied(alloc, &report.words)?;
     let roots = root_words(alloc, report.mutators.items())?;

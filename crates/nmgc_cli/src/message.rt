@@ -8,7 +8,7 @@ use nmgc_lists::NoMemory;
 use nmgc_script::Cause;
 use std::alloc::Global;
 
-/// Returns the text of a refusal that always has the same text. Takes no memory.
+/// Returns the fixed text of a refusal that reports no bad line. Takes no memory.
 pub fn message(refusal: Refusal) -> &'static [u8]
     requires { IsBad refusal → ⊥ }
     ensures { result.now ≡ refusal_text refusal }

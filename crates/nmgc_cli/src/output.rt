@@ -1,7 +1,7 @@
 //! The output of an answer: its status, its report and its text.
 //!
-//! A task that was done returns its output. The text of a bad line takes memory too. Without it, the answer is `NoMemory` in
-//! place of the refusal.
+//! A task that was done returns its output. The text of a bad line takes memory. If it is lacking, the answer is `NoMemory`
+//! in place of the refusal.
 ghost use Rattle.std.specs.Prelude.{◌≡◌, ◌⊎◌, Some, Err};
 ghost use Rattle.nmgc_cli.specs.Answer.{IsBad, IsOutputOf, status_of};
 
@@ -34,7 +34,7 @@ impl Output {
     }
 }
 
-/// Returns the output of a refusal, or of `NoMemory` in place of a bad line.
+/// Returns the output of a refusal. For a bad line it may be the output of `NoMemory`, if there is no memory for the text.
 pub fn output_of_refusal(alloc: Global, refusal: Refusal) -> Output
     ensures { IsOutputOf (Err refusal) result ⊎ (IsBad refusal × IsOutputOf (Err Refusal.NoMemory) result) }
 {
@@ -45,7 +45,7 @@ pub fn output_of_refusal(alloc: Global, refusal: Refusal) -> Output
     }
 }
 
-// Returns the output of a bad line of a script, or of `NoMemory`.
+// Returns the output of a bad line of a script, or the output of `NoMemory` if there is no memory for the text.
 fn output_of_bad(alloc: Global, line: u32, cause: Cause) -> Output
     ensures { IsOutputOf (Err (Refusal.Bad line cause)) result ⊎ IsOutputOf (Err Refusal.NoMemory) result }
 {
@@ -59,7 +59,7 @@ fn output_of_bad(alloc: Global, line: u32, cause: Cause) -> Output
     }
 }
 
-// Returns the output of a bad line of an image, or of `NoMemory`.
+// Returns the output of a bad line of an image, or the output of `NoMemory` if there is no memory for the text.
 fn output_of_bad_image(alloc: Global, line: u32) -> Output
     ensures { IsOutputOf (Err (Refusal.BadImage line)) result ⊎ IsOutputOf (Err Refusal.NoMemory) result }
 {

@@ -1,7 +1,7 @@
 //! The subcommand `retain NAME`: a shortest path to an object of an image.
 //!
-//! The answer of the search is judged by the image alone before it is written. It is proved of the search that the judge says
-//! yes. The judge takes no memory, and less time than reading the image.
+//! Before the search's answer is written, the judge (`verify`) checks it against the image alone. It is proved that the judge
+//! accepts each answer of the search. The judge takes no memory, and less time than reading the image.
 ghost use Rattle.std.specs.Prelude.{◌≡◌, ◌≢◌, [], ◌∷◌, ℕ, ◌≤◌, length, map, string_bytes, codes, IfSome, IfNone};
 ghost use Rattle.nmgc_world_spec.specs.declared.value.Name.{Name as NameOf};
 ghost use Rattle.nmgc_io.specs.Counts.{Rose};
@@ -42,7 +42,7 @@ fn name_after(subcommand: &str, name: &str) -> Option<Name>
     read_name(name.as_bytes())
 }
 
-/// Reads an image, and returns the answer of `retain NAME`: a shortest path to the object of this name, or that none exists.
+/// Reads an image, and returns the answer of `retain NAME`: a shortest path to the object of this name, or `none`.
 pub fn retain<S: Source>(alloc: Global, source: &mut S, name: Name) -> Result<Output, Refusal>
     ensures { AnswersRetain name (S.left source.old) (S.left source.new) (Rose (S.faults source.old) (S.faults source.new)) result }
 {
@@ -50,7 +50,7 @@ pub fn retain<S: Source>(alloc: Global, source: &mut S, name: Name) -> Result<Ou
     path_in(alloc, name, &bytes)
 }
 
-// Returns the answer for `name` in the image that the bytes spell: a shortest path, that there is none, or a refusal.
+// Returns the answer for `name` in the image that the bytes spell: a shortest path, `none`, or a refusal.
 fn path_in(alloc: Global, name: Name, bytes: &[u8]) -> Result<Output, Refusal>
     requires { length bytes.now ≤ MAX_IMAGE_BYTES }
     ensures { AnswersImage name bytes.now result }

@@ -1,4 +1,4 @@
-//! A script that is read and run, and the subcommand `run`.
+//! Reading and running a script, and the subcommand `run`.
 //!
 //! Other subcommands that read a script and run it write another text for its report. They begin with `read_and_run`, as
 //! `run` does, and differ in the text alone.
@@ -49,7 +49,7 @@ pub fn read_and_run<R: Threads + Sync, S: Source>(
 }
 
 /// Runs the script that the bytes spell, and returns its report, or the reason why there is none. The memory of the bytes is
-/// given back before the run. The test of `claims_of` calls it too.
+/// given back before the run. Public for the test of `claims_of`.
 pub fn run_bytes<R: Threads + Sync>(
     alloc: Global,
     rt: &R,
@@ -76,9 +76,9 @@ fn script_of(alloc: Global, bytes: Vec<u8>) -> Result<Script, ScriptFault>
     parse(alloc, &bytes)
 }
 
-/// Runs a script under a gate that never blocks, and returns its report. Requires that the script is within the limits.
-/// The memory of the script isn't given back: the program ends with its report, and then the system takes all of it at once.
-/// A drop of a long script would visit each of its commands.
+/// Runs a script under a gate that never blocks, and returns its report. Requires that the script is within the limits. The
+/// memory of the script isn't given back: the program ends once the report is written, and the system then takes back all
+/// memory at once. A drop of a long script would visit each of its commands.
 pub fn run_script<R: Threads + Sync>(
     alloc: Global,
     rt: &R,

@@ -7,20 +7,20 @@ use nmgc_journal::{End, Report};
 /// The status with which the program ends. Each status has its own text, and a number with which the process ends.
 #[derive(Clone, Copy, Debug, PartialEq, Eq)]
 pub enum Status {
-    /// The task was done. A script was run to its end, and the task's text for its report was written. Or the upgrade of a
-    /// script, a path to an object of an image, or that there is none was written. Number 0.
+    /// The task was done. A script was run to its end, and the task's text for its report was written. Or the text written
+    /// was a script's upgrade, a path in an image, or `none` for no path. Number 0.
     Done,
     /// The arguments ask for no task; nothing was read. Number 2.
     Usage,
     /// The source failed. Number 3.
     ReadFault,
-    /// The sink failed, after it took only some of the text, from its front. Number 4.
+    /// The sink failed, and took a prefix of the text. Number 4.
     WriteFault,
     /// The bytes spell no script. Number 5.
     BadScript,
     /// There are more bytes than a script or an image may have. Number 5.
     TooLong,
-    /// The run ended at a stop with commands left, at which even a full cycle left fewer segments free than the reserve. The
+    /// The run ended at a stop with commands left, since even a full cycle left fewer segments free than the reserve. The
     /// task's text for its report was written. Number 6.
     HeapFull,
     /// There was no memory. Number 7.
@@ -57,8 +57,8 @@ impl Status {
     }
 }
 
-/// The status, and the report if a script was run, whether to its end or until its heap was full. If the sink failed, the
-/// report is there if its text, its summary, its image or its marked names were to be written.
+/// The status, and the report if a script was run and there was memory for its text. The run may have ended because the heap
+/// was full. A sink that fails changes only the status.
 pub struct Ended {
     pub status: Status,
     pub report: Option<Report>,

@@ -1,7 +1,7 @@
 //! The tasks that the arguments of the command line ask for.
 //!
-//! A task is read from all arguments at once, so one argument too many is wrong, and so is one too few. A further task is a
-//! variant here, a line of each definition by cases of tasks (`specs/Task.antt`, `Answers`), a subcommand in the text of
+//! A task is read from all arguments at once, so one argument too many is wrong, and so is one too few. A new task needs a
+//! variant here, a line in each definition by cases of tasks (`specs/Task.antt`, `Answers`), a subcommand in the text of
 //! `Usage`, and a function in a file of its own.
 ghost use Rattle.std.specs.Prelude.{◌≡◌, ◌↔◌, [], ◌∷◌, map, string_bytes, IsTrue, IfSome, IfNone};
 ghost use Rattle.nmgc_cli.specs.Task.{Asks, IsWrong};
@@ -20,12 +20,12 @@ pub enum Task {
     Bench { batches: u32 },
     /// `upgrade`: reads a script from the source to its end, and writes the plain spelling of its upgrade.
     Upgrade,
-    /// `image`: reads and runs a script as `run` does, and writes the image of the heap that its run left.
+    /// `image`: reads and runs a script as `run` does, but writes the image of the heap that its run left.
     Image,
     /// `retain NAME`: reads an image from the source to its end, and writes a shortest path to the object of this name, or
     /// that there is none.
     Retain { name: Name },
-    /// `marks N`: does what `run` does, and writes the names that N markers mark in the heap that its run left.
+    /// `marks N`: reads and runs a script as `run` does, but writes the names that N markers mark in the heap it left.
     Marks { markers: u8 },
 }
 

@@ -24,7 +24,7 @@ use std::alloc::Global;
 use std::thread::Threads;
 
 /// Does the task that the arguments ask for, and writes its text to the sink. Returns the status, and the report if a script
-/// was run.
+/// was run and memory didn't run out.
 /// - `run`: reads a script from the source to its end, runs it, and writes the report's text.
 /// - `bench N`, N from 1 to 100: reads nothing, runs the bench's script, and writes the summary of its report.
 /// - `image`: reads and runs a script as `run` does, but writes the spelling of the image that shows the last world.
@@ -52,8 +52,7 @@ pub fn nmgc<R: Threads + Sync, S: Source, K: Sink>(
     source: &mut S,
     sink: &mut K,
 ) -> Ended
-    // There is an answer to the arguments, with its cause. It says which bytes were read, which bytes were written, and what
-    // is returned.
+    // There is an answer to the arguments, with its cause. It says which bytes were read and written, and what is returned.
     ensures reported { (answer : Answer)
         × IsAnswer (map string_bytes arguments.now) (S.left source.old) (S.left source.new) (Rose (S.faults source.old) (S.faults source.new)) answer
         × Ends (K.taken sink.old) (K.taken sink.new) (Rose (K.faults sink.old) (K.faults sink.new)) answer result.status result.report }
@@ -79,15 +78,13 @@ pub fn nmgc<R: Threads + Sync, S: Source, K: Sink>(
     // run whose last stop isn't crowded doesn't end as `HeapFull`.
     ensures complete { IsComplete (map string_bytes arguments.now) (S.left source.old) (Rose (S.faults source.old) (S.faults source.new))
         (Rose (K.faults sink.old) (K.faults sink.new)) result.status result.report }
-    // A script within the limit is upgraded if there is no fault, unless memory runs out.
+    // For `upgrade`: if a script within the limit is read and nothing fails, the status is `Done`, unless memory runs out.
     ensures upgraded { IsUpgradeComplete (map string_bytes arguments.now) (S.left source.old) (Rose (S.faults source.old) (S.faults source.new))
         (Rose (K.faults sink.old) (K.faults sink.new)) result.status }
-    // For `retain`: if an image within the limit is read and nothing fails, `Done`, with a path or none, unless memory runs
-    // out.
+    // For `retain`: if an image within the limit is read and nothing fails, the status is `Done` (path or not) or `NoMemory`.
     ensures retain { IsRetainComplete (map string_bytes arguments.now) (S.left source.old) (Rose (S.faults source.old) (S.faults source.new))
         (Rose (K.faults sink.old) (K.faults sink.new)) result.status }
-    // For `bench N`, which reads no source: if the sink doesn't fail, its script is run through, with the same statuses and
-    // cause.
+    // For `bench N`: if the sink doesn't fail, its script is run through, with the same statuses and cause of `HeapFull`.
     ensures bench { IsBenchComplete (map string_bytes arguments.now) (Rose (K.faults sink.old) (K.faults sink.new)) result.status result.report }
 {
     let Output {

@@ -3,7 +3,7 @@
 //! Here the parts meet: the definition of a lawful run (`nmgc_run_spec`), the code below (mutators, marker, sweeper, weak
 //! pointers), and the ties between them. `specs/Seen.antt` is the view of a collector in contracts. `specs/Collector.antt` is
 //! the invariant between calls: the report so far describes one run, and the collector's state represents the last state of
-//! that run. `specs/Blocks.antt` and `specs/Marker.antt` tie the marker to the marking machine by blocks, as a run does, and
+//! that run. `specs/Blocks.antt` and `specs/Marker.antt` tie the marker to the marking machine by blocks, as a run does.
 //! `specs/CycleCloses.antt` says that a closing by the marker is a closing of the run.
 //!
 //! - `idle`: a round, from the stop before it to the promotion of the stop after it, while no cycle marks. At a stop words,

@@ -45,8 +45,8 @@ pub fn a_stop_is_prepared()
     ensures begins { StopBegins }
 {}
 
-/// Proves that after each call of the marker the cycle is marking, as the collector's invariant defines it (`IsMarking`):
-/// after the snapshot, after the work in a round, and after the remembered entries are added.
+/// Proves that after each call of the marker the cycle is marking, as the collector's invariant defines it (`IsMarking`). The
+/// calls are the snapshot, the work in a round, and the adding of remembered entries.
 pub fn the_marker_leads_a_cycle()
     ensures snapshot { SnapshotIsMarking }
     ensures round { RoundIsMarking }

@@ -321,7 +321,11 @@ impl Core {
         let Some(name) = first_at(self.owed.items(), mutator) else {
             return Ok(false);
         };
-        extend_at(&mut self.pushed, mutator, name_to_push(&self.snapshot, &name))?;
+        extend_at(
+            &mut self.pushed,
+            mutator,
+            name_to_push(&self.snapshot, &name),
+        )?;
         drop_first_at(&mut self.owed, mutator);
         Ok(true)
     }

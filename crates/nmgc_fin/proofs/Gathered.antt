@@ -38,7 +38,7 @@ pub worker_at : (queue : SegId Global) (jobs : List Job) (crew : List Worker) �
     slice_get crew k ≡ Some w → IsWorker queue jobs w
 worker_at queue jobs crew are k w e = subst (λ (x : Worker). IsWorker queue jobs x) (get_or_from_slice_get crew k w w e) (are k w (slice_get_within crew k w e))
 
--- so are the workers before the last
+-- the passes of the workers before the last are taken in
 pub front_are : (queue : SegId Global) (jobs : List Job) (all before : List Worker) (last : Worker) → all ≡ before ++ last ∷ [] →
     AreWorkers queue jobs all → AreWorkers queue jobs before
 front_are queue jobs all before last is are k d lt = worker_at queue jobs all are k (slice_index_or before k d)

@@ -40,7 +40,7 @@ taken_snoc [] v = append-nil v.taken
 taken_snoc (x ∷ xs) v = ap (λ l. x.taken ++ l) (taken_snoc xs v) ∙ sym (append_assoc x.taken (all_taken xs) v.taken)
 
 module _ {A : Type 0} where
-  -- two pieces before a third, the other way round
+  -- two pieces before a third change places
   swap_pieces : (xs ys zs : List A) → IsPermutation (xs ++ (ys ++ zs)) (ys ++ (xs ++ zs))
   swap_pieces xs ys zs =
       rw (← (append_assoc xs ys zs)) (rw (append_assoc ys xs zs) at (IsPermutation-append_left zs (xs ++ ys) (ys ++ xs) (IsPermutation-append_comm xs ys)))
@@ -205,7 +205,7 @@ forks pass v two items views h at =
           (at_snoc (set views pass left) right u j e);
     }
 
--- a pass takes in another's parts
+-- a pass takes in another pass's parts
 pub merges : (pass : ℕ) (v : Hand) (other : ℕ) (w : Hand) → 0 < v.parts → Merges Balanced pass v other w (both_hands v w) no_hand
 merges pass v other w some_part items views h at apart at' =
     let both : Hand = both_hands v w in

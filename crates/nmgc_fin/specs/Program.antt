@@ -51,7 +51,7 @@ fixed_text _ = []
 abbrev pub bad_text : ℕ → List ℕ
 bad_text line = codes "bad line " ++ decimal line ++ 10 ∷ []
 
--- a text that was made is the output with its status; without a text there was no memory
+-- the output after a text was to be made: the text with this status, or the fixed text of `NoMemory` with that status
 abbrev pub IsMadeOf : FinStatus → Result (Vec ℕ Global) NoMemoryOf → Output → Type 0
 IsMadeOf status (Ok text) reported = (reported.status ≡ status) × (text_bytes reported.text ≡ text.items)
 IsMadeOf status (Err _) reported = (reported.status ≡ NoMemory) × (text_bytes reported.text ≡ fixed_text NoMemory)
@@ -63,7 +63,7 @@ pub record ListsHandled (by : List (List Job)) (text : List ℕ) : Type 0 where
   pub placed : All (IsPlaced names) (joined by)
   pub reported : text ≡ jobs_text names
 
--- the given number of workers handled the jobs, each once, and the text lists the handled jobs in order, which are the jobs
+-- the given number of workers handled the jobs, each once, and the text lists the handled jobs, which are all jobs, in order
 pub record AreDone (workers : ℕ) (jobs : List Job) (text : List ℕ) : Type 0 where
   pub by : List (List Job)
   pub count : length by ≡ workers
@@ -71,23 +71,23 @@ pub record AreDone (workers : ℕ) (jobs : List Job) (text : List ℕ) : Type 0 
   pub reported : ListsHandled by text
   pub all : text ≡ jobs_text (map weak_of jobs)
 
--- the output for a report's bytes. With Done the workers handled its jobs, each once, and the text lists these in order.
--- Otherwise it is the first bad line, or that there was no memory.
+-- the output for a report's bytes. With `Done` the workers handled the report's jobs, each once, and the text lists the jobs
+-- in order. Otherwise the text reports the first bad line, or that there was no memory
 abbrev pub SaysOfBytes : ℕ → List ℕ → FinStatus → List ℕ → Type 0
 SaysOfBytes workers bytes Done text = (jobs : List Job) × AreJobsOf (lines_of bytes) jobs × AreDone workers jobs text
 SaysOfBytes workers bytes BadReport text = (line : ℕ) × IsFirstBad (lines_of bytes) line × (text ≡ bad_text line)
 SaysOfBytes workers bytes NoMemory text = text ≡ fixed_text NoMemory
 SaysOfBytes workers bytes _ text = ⊥
 
--- the bytes that a source had left were read to its end, and are no more than a report may have
+-- a source was read to its end and gave these bytes, no more than a report may have
 pub record IsRead (old new : Option (List ℕ)) (bytes : List ℕ) : Type 0 where
   pub taken : Consumes old new bytes
   pub end : IsAtEnd new
   pub within : length bytes ≤ MAX_REPORT_BYTES
 
--- the program's output: for each status its cause and its text, by the arguments, the source's bytes before and after, and
--- its count of faults. With Done the given number of workers handled the jobs of the bytes read, each once, and the text
--- lists these in order.
+-- the program's output: the cause and the text of each status, by the arguments, the source's bytes before and after, and the
+-- source's count of faults. With `Done` the given number of workers handled the jobs of the bytes read, each once, and the
+-- text lists the jobs in order
 abbrev pub Says : List (List ℕ) → Option (List ℕ) → Option (List ℕ) → Type 0 → FinStatus → List ℕ → Type 0
 Says arguments old new rose Usage text = IsWrong arguments × Keeps old new × (text ≡ fixed_text Usage)
 Says arguments old new rose ReadFault text = (workers : ℕ) × Asks arguments workers × TakesUpTo old new MAX_REPORT_BYTES × rose × (text ≡ fixed_text ReadFault)
@@ -97,19 +97,19 @@ Says arguments old new rose Done text = (workers : ℕ) × Asks arguments worker
 Says arguments old new rose BadReport text = (workers : ℕ) × Asks arguments workers × (bytes : List ℕ) × IsRead old new bytes × SaysOfBytes workers bytes BadReport text
 Says arguments old new rose WriteFault text = ⊥
 
--- the written output: the text was written whole, or the sink failed and has a front of it
+-- the written output: the text was written whole, or the sink failed and has a prefix of the text
 abbrev pub IsWritten : Option (List ℕ) → Option (List ℕ) → Type 0 → FinStatus → List ℕ → FinStatus → Type 0
 IsWritten old new rose reported text status = shared.IsWritten WriteFault old new rose reported text status
 
--- completeness: arguments that are a number of workers, and known bytes within the limit that give jobs, end with Done or no
--- memory if neither count of faults rises
+-- completeness: let the arguments be a number of workers, and known bytes within the limit give jobs. If neither count of
+-- faults rises, the status is `Done` or `NoMemory`
 abbrev pub IsComplete : List (List ℕ) → Option (List ℕ) → Type 0 → Type 0 → FinStatus → Type 0
 IsComplete arguments left read_fault write_fault status = (bytes : List ℕ) (workers : ℕ) (jobs : List Job) → Asks arguments workers → left ≡ Some bytes →
     length bytes ≤ MAX_REPORT_BYTES → AreJobsOf (lines_of bytes) jobs
     → (read_fault → ⊥) → (write_fault → ⊥) → (status ≡ Done) ⊎ (status ≡ NoMemory)
 
--- a run of the program: the command line's arguments were passed on, and the output for them and for the bytes read was
--- written. For wrong arguments the source is as it was. The number is the status's.
+-- a run of the program: the command line's arguments were passed on, and the output for the arguments and the bytes read was
+-- written. If the arguments are wrong, the source is as it was. The exit number is the status's number
 pub record Ran (line : Option (List (List ℕ))) (left left' : Option (List ℕ)) (read_fault as_it_was : Type 0) (taken taken' : Option (List ℕ))
     (write_fault : Type 0) (number : ℕ) : Type 0 where
   pub arguments : List (List ℕ)

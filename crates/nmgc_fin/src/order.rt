@@ -28,7 +28,7 @@ pub fn in_order(alloc: Global, count: usize, handled: &Handled) -> Result<Vec<Na
     Ok(names)
 }
 
-// Puts each name at the position of its job's number.
+// Puts the name of each job's weak pointer at the position of the job's number. Names of other jobs stay in their positions.
 fn place(names: &mut Vec<Name>, done: &[Job])
     requires within { AreWithin (length names.old.items) done.now }
     requires alike { AreAlike done.now }
@@ -42,7 +42,7 @@ fn place(names: &mut Vec<Name>, done: &[Job])
     }
 }
 
-/// Writes the text that lists the handled jobs, in order of number.
+/// Returns the text that lists jobs in order of number. `names` has the names of their weak pointers in this order.
 pub fn handled_text(alloc: Global, names: &[Name]) -> Result<Vec<u8>, NoMemory>
     ensures { IfOk result (λ text. text.items ≡ jobs_text names.now) }
 {

@@ -28,11 +28,11 @@ pub struct Handled {
     pub by: List<List<Job>>,
 }
 
-/// Handles the jobs by `workers` workers, from 1 to `MOST_WORKERS`, each job once and in any order. The jobs are numbered
-/// from 0. Each worker passes `gate` as its number before it handles a job, and counts its passes from 1. Returns after every
-/// worker has; it may wait while another thread is within a push, and the promise holds if it returns. No clause claims
-/// progress, or that more than one worker handles a job. Takes memory for the jobs in the queue, and for the same number in
-/// the list of each worker. After `NoMemory` some jobs may have been handled.
+/// Handles the jobs with `workers` workers, from 1 to `MOST_WORKERS`, each job once and in any order. The jobs are numbered
+/// from 0. Before a worker handles a job, it passes `gate` with its own number and the count of its passes, from 1. Returns
+/// after every worker has returned. It may wait while another thread is within a push, and the promise holds if it returns.
+/// No clause claims progress, or that more than one worker handles a job. Takes memory for the jobs in the queue, and for the
+/// same number in the list of each worker. After `NoMemory` some jobs may have been handled.
 pub fn run_jobs<R: Threads + Wait + Sync, G: Gate>(
     alloc: Global,
     rt: &R,
@@ -51,7 +51,7 @@ pub fn run_jobs<R: Threads + Wait + Sync, G: Gate>(
     handled
 }
 
-// Pushes all jobs, and then runs the workers.
+// Pushes all jobs, lets the workers handle them, and returns the workers' lists.
 fn handle<R: Threads + Wait + Sync, G: Gate>(
     alloc: Global,
     rt: &R,
@@ -142,12 +142,12 @@ fn work_all<R: Threads + Wait + Sync, G: Gate>(
         &|number, worker: &mut Worker|
             requires { (number < MOST_WORKERS) × IsWorker queue.now jobs.now worker.now }
             ensures { IsWorker queue.entry.now jobs.entry.now worker.exit.now }
-        { work_once(rt, queue, jobs, number as u8, worker, gate) },
+        { work_one(rt, queue, jobs, number as u8, worker, gate) },
     );
 }
 
-// Lets a worker with one part work.
-fn work_once<R: Wait, G: Gate>(
+// Lets one worker take and handle jobs until it finds none. Only the contract uses `jobs`, all jobs that were pushed.
+fn work_one<R: Wait, G: Gate>(
     rt: &R,
     queue: &JobQueue,
     jobs: &[Job],

@@ -23,7 +23,7 @@ use std::thread::Threads;
 /// The most bytes of a report.
 pub const MAX_REPORT_BYTES: usize = 268_435_456;
 
-/// How the program ended, with the exit number of the process. Two share number 5: the text distinguishes them.
+/// How the program ended, with the exit number of the process. Two variants share number 5: the text distinguishes them.
 #[derive(Clone, Copy, Debug, PartialEq, Eq)]
 pub enum FinStatus {
     /// Each job was handled; the text was written. Number 0.
@@ -32,7 +32,7 @@ pub enum FinStatus {
     Usage,
     /// The source failed. Number 3.
     ReadFault,
-    /// The sink failed; it has a front of the output. Number 4.
+    /// The sink failed, and has a prefix of the output. Number 4.
     WriteFault,
     /// A line whose first token is `dead` isn't `dead` and a name. Number 5.
     BadReport,
@@ -43,7 +43,7 @@ pub enum FinStatus {
 }
 
 impl FinStatus {
-    /// Returns the exit number of the process.
+    /// Returns the exit number of the process for this status.
     pub fn number(self) -> u8
         ensures { result ≡ number_of self }
     {
@@ -65,10 +65,10 @@ struct Output {
     text: Text,
 }
 
-/// Reads a report from the source to its end and handles one job for each of its dead weak pointers, each once, by the
-/// number of workers in `arguments`. Then it writes the handled jobs in order of number. If something prevents this, it
-/// writes the text of the first refusal. A report within the limit is handled if there is no fault and enough memory. May
-/// wait for its workers.
+/// Reads a report from the source to its end, and handles a job for each dead weak pointer of the report, each once.
+/// `arguments` has the number of workers. Then it writes the handled jobs in order of number, and returns the status. If
+/// something prevents this, it writes the text of the first refusal. A report within the limit and without a bad line is
+/// handled if there is no fault and enough memory. May wait for its workers.
 pub fn nmgc_fin<R: Threads + Wait + Sync, S: Source, K: Sink>(
     alloc: Global,
     rt: &R,
@@ -76,13 +76,13 @@ pub fn nmgc_fin<R: Threads + Wait + Sync, S: Source, K: Sink>(
     source: &mut S,
     sink: &mut K,
 ) -> FinStatus
-    // The output for the arguments and for the bytes read was written.
+    // The output for the arguments and the bytes read was written; if the sink failed, a prefix of the output.
     ensures reported { (reported : StatusOf) × (text : List ℕ)
         × Says (map string_bytes arguments.now) (S.left source.old) (S.left source.new) (Rose (S.faults source.old) (S.faults source.new)) reported text
         × IsWritten (K.taken sink.old) (K.taken sink.new) (Rose (K.faults sink.old) (K.faults sink.new)) reported text result }
-    // For wrong arguments nothing is read.
+    // If the arguments are wrong, nothing is read.
     ensures unread { IsWrong (map string_bytes arguments.now) → source.new ≡ source.old }
-    // The jobs of a report within the limit are handled if there is no fault, or there was no memory.
+    // The jobs of a report within the limit are handled, unless there is a fault or memory runs out.
     ensures complete { IsComplete (map string_bytes arguments.now) (S.left source.old) (Rose (S.faults source.old) (S.faults source.new))
         (Rose (K.faults sink.old) (K.faults sink.new)) result }
 {
@@ -102,13 +102,13 @@ fn output_of<R: Threads + Wait + Sync, S: Source>(
     ensures unread { IsWrong (map string_bytes arguments.now) → source.new ≡ source.old }
 {
     let Some(workers) = workers_of(arguments) else {
-        return fixed(FinStatus::Usage);
+        return fixed_output(FinStatus::Usage);
     };
     match read_all(alloc, source, MAX_REPORT_BYTES) {
         Ok(bytes) => output_of_bytes(alloc, rt, workers, bytes.as_slice()),
-        Err(ReadEnd::ReadFault) => fixed(FinStatus::ReadFault),
-        Err(ReadEnd::TooLong) => fixed(FinStatus::TooLong),
-        Err(ReadEnd::NoMemory) => fixed(FinStatus::NoMemory),
+        Err(ReadEnd::ReadFault) => fixed_output(FinStatus::ReadFault),
+        Err(ReadEnd::TooLong) => fixed_output(FinStatus::TooLong),
+        Err(ReadEnd::NoMemory) => fixed_output(FinStatus::NoMemory),
     }
 }
 
@@ -124,14 +124,14 @@ fn output_of_bytes<R: Threads + Wait + Sync>(
     ensures { SaysOfBytes workers bytes.now result.status (text_bytes result.text) }
 {
     match jobs(alloc, bytes) {
-        Ok(jobs) => made(FinStatus::Done, done_text(alloc, rt, workers, jobs.items())),
-        Err(JobsFault::Bad { line }) => made(FinStatus::BadReport, bad_text(alloc, line)),
-        Err(JobsFault::NoMemory) => fixed(FinStatus::NoMemory),
+        Ok(jobs) => output_with(FinStatus::Done, done_text(alloc, rt, workers, jobs.items())),
+        Err(JobsFault::Bad { line }) => output_with(FinStatus::BadReport, bad_text(alloc, line)),
+        Err(JobsFault::NoMemory) => fixed_output(FinStatus::NoMemory),
     }
 }
 
-// Returns a text that was made, with its status, or the output for lack of memory.
-fn made(status: FinStatus, text: Result<Vec<u8>, NoMemory>) -> Output
+// Returns the output with this status and text, or the output for lack of memory if the text couldn't be made.
+fn output_with(status: FinStatus, text: Result<Vec<u8>, NoMemory>) -> Output
     ensures { IsMadeOf status text result }
 {
     match text {
@@ -139,11 +139,11 @@ fn made(status: FinStatus, text: Result<Vec<u8>, NoMemory>) -> Output
             status,
             text: Text::Made(text),
         },
-        Err(_) => fixed(FinStatus::NoMemory),
+        Err(_) => fixed_output(FinStatus::NoMemory),
     }
 }
 
-// Handles the jobs, and then makes the text of the handled jobs.
+// Handles the jobs, and returns the text that lists the handled jobs.
 fn done_text<R: Threads + Wait + Sync>(
     alloc: Global,
     rt: &R,
@@ -158,7 +158,7 @@ fn done_text<R: Threads + Wait + Sync>(
     text_of(alloc, jobs, &handled)
 }
 
-// Makes the text that lists the handled jobs, which are all jobs. It uses only the number of `jobs`.
+// Returns the text that lists the handled jobs, which are all jobs. It uses only the length of `jobs`.
 fn text_of(alloc: Global, jobs: &[Job], handled: &Handled) -> Result<Vec<u8>, NoMemory>
     requires numbered { AreNumbered jobs.now }
     requires handled { Handles jobs.now handled.now.by }
@@ -179,7 +179,7 @@ fn workers_of(arguments: &[String]) -> Option<u8>
     }
 }
 
-// Returns the number of workers that an argument spells.
+// Returns the number of workers that an argument spells, or `None` if it spells no number from 1 to `MOST_WORKERS`.
 fn workers_in(argument: &[u8]) -> Option<u8>
     ensures found { IfSome result (λ workers. (argument.now ≡ decimal workers) × IsCount workers) }
     ensures none { IfNone result ((workers : ℕ) → IsCount workers → argument.now ≡ decimal workers → ⊥) }
@@ -191,8 +191,8 @@ fn workers_in(argument: &[u8]) -> Option<u8>
     Some(number as u8)
 }
 
-// Returns the fixed text of a status. Takes no memory.
-fn fixed(status: FinStatus) -> Output
+// Returns the output with a status and the status's fixed text. Takes no memory.
+fn fixed_output(status: FinStatus) -> Output
     requires { IsFixed status }
     ensures { (result.status ≡ status) × (text_bytes result.text ≡ fixed_text status) }
 {
@@ -209,7 +209,7 @@ fn fixed(status: FinStatus) -> Output
     }
 }
 
-// Makes the report of the first bad line, from 1.
+// Returns the text that reports the first bad line, counted from 1.
 fn bad_text(alloc: Global, line: u32) -> Result<Vec<u8>, NoMemory>
     ensures { IfOk result (λ text. text.items ≡ bad_text line) }
 {

@@ -31,7 +31,7 @@ pub struct Worker {
 }
 
 impl Worker {
-    /// Takes jobs until none is found, and handles each: it passes the gate, and the job joins its list. Takes no memory.
+    /// Takes jobs until it finds none. For each job it passes the gate, and puts the job into its list. Takes no memory.
     pub fn work<R: Wait, G: Gate>(&mut self, rt: &R, queue: &JobQueue, number: u8, gate: &G)
         requires { CanWork queue.now self.old }
         ensures { HasWorked queue.now self.old self.new }

@@ -39,16 +39,16 @@ const TWO: &str = "report 1\n0 dead\ndead 0.4\ndead g\nend done\n";
 
 const TWO_JOBS: &str = "jobs 2\njob 0 0.4\njob 1 g\nend\n";
 
-// The number of one call.
-fn listed(alloc: Global, call: u64) -> Result<Vec<u64>, AllocError> {
+// Returns the list of one number of a call.
+fn one_call(alloc: Global, call: u64) -> Result<Vec<u64>, AllocError> {
     let mut calls = Vec::new(alloc);
     calls.push(call)?;
     Ok(calls)
 }
 
-// The result of three workers on that report, in pieces of 5 bytes, if the read and the write with these numbers fail: the
-// status, and the sink's bytes. No call has number 0.
-fn failing<R: Threads + Wait + Sync>(
+// Runs three workers on `TWO`, in pieces of 5 bytes, and returns the status and the sink's bytes. The read and the write with
+// these numbers fail; no call has number 0.
+fn run_with_faults<R: Threads + Wait + Sync>(
     alloc: Global,
     rt: &R,
     read: u64,
@@ -57,8 +57,8 @@ fn failing<R: Threads + Wait + Sync>(
     let mut words = Vec::new(alloc);
     words.push(String::from_str(alloc, "3")?)?;
     let bytes = Vec::from_slice(alloc, TWO.as_bytes())?;
-    let mut source = MemorySource::new(bytes, 5, listed(alloc, read)?);
-    let mut sink = MemorySink::new(alloc, 5, listed(alloc, write)?, 1000)?;
+    let mut source = MemorySource::new(bytes, 5, one_call(alloc, read)?);
+    let mut sink = MemorySink::new(alloc, 5, one_call(alloc, write)?, 1000)?;
     let status = nmgc_fin(alloc, rt, words.as_slice(), &mut source, &mut sink);
     let text = Vec::from_slice(alloc, sink.bytes())?;
     Ok((status, text))
@@ -67,7 +67,7 @@ fn failing<R: Threads + Wait + Sync>(
 // Checks that each single failed read is reported: nine reads of pieces, and one that finds the end.
 fn check_reads<R: Threads + Wait + Sync + Abort>(rt: &R, alloc: Global) -> Result<(), Fail> {
     for read in 1..11 {
-        let (status, text) = failing(alloc, rt, read, 0)?;
+        let (status, text) = run_with_faults(alloc, rt, read, 0)?;
         assert!(rt; status == FinStatus::ReadFault);
         assert!(rt; text.as_slice() == b"read fault\n".as_slice());
     }
@@ -78,7 +78,7 @@ fn check_reads<R: Threads + Wait + Sync + Abort>(rt: &R, alloc: Global) -> Resul
 fn check_writes<R: Threads + Wait + Sync + Abort>(rt: &R, alloc: Global) -> Result<(), Fail> {
     let all = TWO_JOBS.as_bytes();
     for write in 1..7 {
-        let (status, text) = failing(alloc, rt, 0, write)?;
+        let (status, text) = run_with_faults(alloc, rt, 0, write)?;
         let written = (5 * (write as usize - 1)).min(all.len());
         assert!(rt; status == FinStatus::WriteFault);
         assert!(rt; text.as_slice() == &all[..written]);
@@ -91,7 +91,7 @@ fn each_read_and_each_write_fails(rt: HostRuntime) -> Result<(), Fail> {
     assert!(rt; TWO.len().div_ceil(5) == 9 && TWO_JOBS.len().div_ceil(5) == 6);
     check_reads(&rt, rt.alloc())?;
     check_writes(&rt, rt.alloc())?;
-    let (status, text) = failing(rt.alloc(), &rt, 11, 7)?;
+    let (status, text) = run_with_faults(rt.alloc(), &rt, 11, 7)?;
     assert!(rt; status == FinStatus::Done);
     assert!(rt; text.as_slice() == TWO_JOBS.as_bytes());
     Ok(())
@@ -111,8 +111,8 @@ fn names_have_their_lines(rt: HostRuntime) -> Result<(), Fail> {
     Ok(())
 }
 
-// Makes `count` jobs.
-fn many(alloc: Global, count: u32) -> Result<Vec<Job>, Fail>
+// Returns `count` jobs, numbered from 0.
+fn make_jobs(alloc: Global, count: u32) -> Result<Vec<Job>, Fail>
     ensures { IfOk result (λ all. AreNumbered all.items) }
 {
     let mut all = Vec::new(alloc);
@@ -129,7 +129,7 @@ fn many(alloc: Global, count: u32) -> Result<Vec<Job>, Fail>
 }
 
 // Returns the number of handled jobs, and the sum of their numbers.
-fn sums(handled: &Handled) -> (u64, u64) {
+fn count_and_sum(handled: &Handled) -> (u64, u64) {
     let mut count = 0u64;
     let mut sum = 0u64;
     for list in handled.by.items() {
@@ -145,9 +145,9 @@ fn sums(handled: &Handled) -> (u64, u64) {
 fn each_job_is_handled_once(rt: HostRuntime) -> Result<(), Fail> {
     for workers in [1u8, 2, 3, 8, 32] {
         for (count, sum) in [(0u32, 0u64), (1, 0), (2, 1), (1000, 499_500)] {
-            let all = many(rt.alloc(), count)?;
+            let all = make_jobs(rt.alloc(), count)?;
             let handled = run_jobs(rt.alloc(), &rt, all.as_slice(), workers, &OpenGate)?;
-            assert!(rt; sums(&handled) == (u64::from(count), sum));
+            assert!(rt; count_and_sum(&handled) == (u64::from(count), sum));
         }
     }
     Ok(())
@@ -194,9 +194,9 @@ fn workers_run_beside_each_other(rt: HostRuntime) -> Result<(), Fail> {
         reached: [AtomicU64::new(0), AtomicU64::new(0)],
         given_up: AtomicU64::new(0),
     };
-    let all = many(rt.alloc(), 2)?;
+    let all = make_jobs(rt.alloc(), 2)?;
     let handled = run_jobs(rt.alloc(), &rt, all.as_slice(), 2, &meet)?;
     assert!(rt; meet.has_met());
-    assert!(rt; sums(&handled) == (2u64, 1u64));
+    assert!(rt; count_and_sum(&handled) == (2u64, 1u64));
     Ok(())
 }

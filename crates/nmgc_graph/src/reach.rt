@@ -30,7 +30,7 @@ impl World {
     /// the names in `extra`, and that follows strong fields. It also has each weak pointer that is alive and whose key is
     /// live, nil or a number, with value and finaliser. After `NoMemory` there is no answer. Takes time proportional to the
     /// names, their fields and `extra`, and memory for each name.
-    pub fn live_names(&self, extra: &[Name]) -> Result<List<Name>, NoMemory>
+    pub fn live(&self, extra: &[Name]) -> Result<List<Name>, NoMemory>
         requires { All (λ name. IsSome (node_of self.now name)) extra.now }
         ensures { IfOk result (λ names. Lists (IsLive self.now extra.now) names) }
     {
@@ -43,7 +43,7 @@ impl World {
 
     /// Returns the dead weak pointers in order, which die at the closing. Each is alive so far and isn't in `finalised`, and
     /// its key refers to a name that isn't live. Names in `finalised` that the world doesn't have are ignored. Takes the time
-    /// of `live_names`, and constant time for each name in `finalised`.
+    /// of `live`, and constant time for each name in `finalised`.
     pub fn dead_weaks(&self, extra: &[Name], finalised: &[Name]) -> Result<List<Name>, NoMemory>
         requires { All (λ name. IsSome (node_of self.now name)) extra.now }
         ensures { IfOk result (λ names. Lists (IsDead self.now extra.now finalised.now) names) }
@@ -54,7 +54,7 @@ impl World {
     }
 
     /// Returns the kept names in order: the live names, the finalisers of dead weak pointers, and all that is reachable from
-    /// these along strong fields. Takes the time of `live_names`, and constant time for each name in `finalised`.
+    /// these along strong fields. Takes the time of `live`, and constant time for each name in `finalised`.
     pub fn kept(&self, extra: &[Name], finalised: &[Name]) -> Result<List<Name>, NoMemory>
         requires { All (λ name. IsSome (node_of self.now name)) extra.now }
         ensures { IfOk result (λ names. Lists (IsKept self.now extra.now finalised.now) names) }

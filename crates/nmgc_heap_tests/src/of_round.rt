@@ -77,7 +77,7 @@ fn work(round: &Round, seat: &mut MutatorSeat, layout: Layout, number: u8) -> (u
             value: Operand::Register(1),
         },
     };
-    round.store_header(seat, Address(base), 2050, &make);
+    round.give_birth(seat, Address(base), 2050, &make);
     let share = PackedCommand {
         form: Form::Set {
             object: Operand::Shared,

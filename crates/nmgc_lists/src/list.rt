@@ -3,7 +3,7 @@
 //! It is `Vec` with one error for lack of memory, and with room for two items in the value itself. Most constructors of a
 //! world have one or two fields, so `pair` saves an allocation for each. More items lie in a vector that has memory of its
 //! own, so a list is small wherever it lies. Only `push`, `copy` and `from_vec` take memory; after an error the list is
-//! unchanged. Contracts never see where the items lie.
+//! unchanged. Contracts never see the items' addresses.
 //!
 //! Easy to get wrong: a list made by `new` or `pair` has no vector, even after an item was taken off. So the next `push` onto
 //! it takes memory, even if the value itself would have room.

@@ -2,8 +2,8 @@
 use nmgc_limits::MAKERS;
 use nmgc_lists::ListMemory;
 use nmgc_object::{
-    Address, Field, FinQueue, Header, Layout, Nursery, block_words, class_of, decode_field,
-    decode_header, decode_name, encode_field, encode_header, encode_name, fields_of, header_of,
+    Address, Field, FinQueue, Header, Layout, Nursery, block_words, class_of, decode_header,
+    decode_name, decode_value, encode_header, encode_name, encode_value, fields_of, header_of,
     laws, name_of, object_words, words_of,
 };
 use nmgc_world_spec::{Kind, Name};
@@ -60,11 +60,11 @@ fn names(rt: HostRuntime) {
 #[test]
 fn fields(rt: HostRuntime) {
     let greatest = 4_611_686_018_427_387_903;
-    assert!(rt; encode_field(Field::Unset) == 0);
-    assert!(rt; encode_field(Field::Nil) == 1);
-    assert!(rt; encode_field(Field::Number(5)) == 13);
-    assert!(rt; encode_field(Field::Number(greatest)) == 9_223_372_036_854_775_809);
-    assert!(rt; encode_field(Field::Pointer(Address(33))) == 66);
+    assert!(rt; encode_value(Field::Unset) == 0);
+    assert!(rt; encode_value(Field::Nil) == 1);
+    assert!(rt; encode_value(Field::Number(5)) == 13);
+    assert!(rt; encode_value(Field::Number(greatest)) == 9_223_372_036_854_775_809);
+    assert!(rt; encode_value(Field::Pointer(Address(33))) == 66);
     let rows = [
         (0, Some(Field::Unset)),
         (1, Some(Field::Nil)),
@@ -75,7 +75,7 @@ fn fields(rt: HostRuntime) {
         (8_589_934_592, None),
     ];
     for (word, field) in rows {
-        assert!(rt; decode_field(word) == field);
+        assert!(rt; decode_value(word) == field);
     }
 }
 

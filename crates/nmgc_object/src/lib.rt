@@ -20,6 +20,6 @@ pub use size::{
     words_of,
 };
 pub use words::{
-    Address, Field, FieldWord, Header, MAX_FIELDS, NUMBER_LIMIT, decode_field, decode_header,
-    decode_name, encode_field, encode_header, encode_name, fields_of, header_of, name_of,
+    Address, Field, FieldWord, Header, MAX_FIELDS, NUMBER_LIMIT, decode_header, decode_name,
+    decode_value, encode_header, encode_name, encode_value, fields_of, header_of, name_of,
 };

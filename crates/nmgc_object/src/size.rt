@@ -42,9 +42,9 @@ const _: () = prove!(MAX_BLOCK_WORDS == DENSE_WORDS << (MAX_CLASS - DENSE_CLASS)
 
 const _: () = prove!(MAX_BLOCK_WORDS == HEADER_WORDS + MAX_FIELDS);
 
-/// Returns the number of words of an object of this kind with `parts` parts: the values of a constructor or array, the free
-/// variables of a thunk, the slots of a stack. A thunk has one word more for its result. A variable and a weak pointer have a
-/// fixed size. Takes no memory.
+/// Returns the number of words of an object of this kind with `parts` parts. The parts are the values of a constructor or
+/// array, the free variables of a thunk, or the slots of a stack. A thunk has one word more for its result. A variable and a
+/// weak pointer have a fixed size. Takes no memory.
 pub fn words_of(kind: Kind, parts: u32) -> u32
     requires { parts ≤ MAX_PARTS }
     ensures { result ≡ word_count kind parts }

@@ -4,8 +4,8 @@
 //! object is its header, the second its name, the rest are fields. Header and name never change after the object is made, so
 //! they may be read without order among threads.
 //!
-//! A field's code separates the words that the collector follows from the words that it ignores. The word 0 is an unset
-//! field, or a dead weak pointer's value; even words are pointers, odd words nil or numbers. Only `FieldWord` decodes them.
+//! A field's code separates the words that the collector follows from the words that it ignores. Word 0 is an unset field, or
+//! a dead weak pointer's value; other even words are pointers, odd words nil or numbers. Only `FieldWord` decodes them.
 //!
 //! Easy to get wrong: a word whose parts look sound one by one may still be no valid word. Only constructors have tags, and
 //! the number of fields depends on the kind, so decoding tests both together.
@@ -267,7 +267,7 @@ pub fn name_of(word: u64) -> Name
 }
 
 /// Returns the word of a field. A number is below `NUMBER_LIMIT`, and a pointer isn't 0. Takes no memory.
-pub fn encode_field(field: Field) -> u64
+pub fn encode_value(field: Field) -> u64
     requires { IsField field }
     ensures { result ≡ field_word field }
 {
@@ -280,7 +280,7 @@ pub fn encode_field(field: Field) -> u64
 }
 
 /// Returns the field that has this word. Returns `None` exactly if no valid field has it. Takes no memory.
-pub fn decode_field(word: u64) -> Option<Field>
+pub fn decode_value(word: u64) -> Option<Field>
     ensures some { IfSome result (λ field. IsField field × (field_word field ≡ word)) }
     ensures none { IfNone result ((field : Field) → IsField field → field_word field ≢ word) }
 {

@@ -1,4 +1,4 @@
--- The seats of all markers are join_lists, and their lists together are the found objects.
+-- The seats of all markers are joined, and their lists together are the found objects.
 use Rattle.nmgc_pmark.proofs.Vocabulary.{◌≡◌, ◌<◌, ◌*◌, ◌%◌, ℕ, zero, suc, List, [], ◌∷◌, ◌++◌, length, map, take, get_or, inl, inr, refl, sym, ap, subst, ◌∙◌, arith, ◌⊎◌, Some, mod-lt, take-append_seam, Contains, slice_index, slice_get, slice_get-get_or, slice_get_within, get_or_from_slice_get, get_or_default, Contains-append_left, Contains-append_right, some, some-injective, some-ne-none, get_elem?, at_longer, contains_head, contains_tail, contains_cases, Room, Address, ClaimTable, Marker, Part, ClaimsSeen, blank, blanks, together, CanSplit, HasAll, IsShared, seen, bounds_of, IsFound, IsIn, block_index, blocks_of, CanMark, AreDistinct, part_of, IsSound, IsTaken, HasMarked, AreNumbered, HaveAllMarked, AreSound, IsSharedAmong, AreMarked, found_of}
 use Rattle.nmgc_pmark.proofs.Rules.{only_one, in_either, at_later}
 
@@ -103,7 +103,7 @@ pub numbered : (crew : List Marker) → AreNumbered crew → (k : ℕ) (m : Mark
 numbered crew numbers k m e = subst (λ (x : Marker). x.number ≡ k) (get_or_from_slice_get crew k m m e) (numbers k m (slice_get_within crew k m e))
 
 module _ (crew xs : List Marker) (x : Marker) (is : crew ≡ xs ++ x ∷ []) (v : ClaimsSeen) (g : Gathers v (x ∷ xs)) where
-  -- the collect_lists seat has every part
+  -- the seat of all markers, once they are joined, has every part
   pub has_all : (markers : ℕ) → AreNumbered crew → length crew ≡ markers → HasAll markers v
   has_all markers numbers count m lt =
       let d : Marker = get_or crew m x in

@@ -1,7 +1,7 @@
 //! The claim table: a word for each block, 0 or the number of the marker that claimed the block plus one.
 //!
 //! A marker claims a block by one compare-exchange. So only one marker gets a block, and others find it claimed. They needn't
-//! know by which marker: once all seats are join_lists, every block that was found claimed is in some marker's list (`close`).
+//! know by which marker: once all seats are joined, every block that was found claimed is in some marker's list (`close`).
 //!
 //! Easy to get wrong: a marker that was refused a block may not wait for its owner. It need not: the owner scans the block.
 ghost use Rattle.std.specs.Prelude.{◌≡◌, ◌<◌, Contains, IfOk, IsTrue};

@@ -2,7 +2,7 @@
 //!
 //! Before any marker starts, the first seat is split into a seat for each. Then each marks in a thread of its own. If a
 //! thread can't be started, the caller's thread marks in its place, one marker after the other. Once all markers are done
-//! their seats are join_lists. The last seat knows that every block that any marker found claimed is in some list.
+//! their seats are joined. The last seat knows that every block that any marker found claimed is in some list.
 ghost use Rattle.std.specs.Prelude.{◌≡◌, ◌-◌, ◌<◌, ◌≤◌, [], ◌∷◌, ◌^◌, length, map, vec_len, IfOk};
 ghost use Rattle.nmgc_pmark.specs.{View.whole, View.blank, Seat.seen, Seat.bounds_of, Seat.IsAt, Found.CanMark, Marker.CanBegin, Marker.HasMarked, declared.crew.TheConstants.MOST_MARKERS};
 ghost use Rattle.nmgc_pmark.specs.Crew.{AreNumbered, CanAllBegin, HaveAllMarked, AreSound, IsSharedAmong, AreMarked, found_of};

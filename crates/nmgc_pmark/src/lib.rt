@@ -13,7 +13,7 @@
 //! - `laws`: the heap at a stop of a run can be marked like this, and the one marker of a cycle (`nmgc_mark`) marks the same.
 //!
 //! Easy to get wrong: a marker that found a block claimed knows only that some marker has it. That its object is scanned in
-//! the end is known once the seats of all markers are join_lists.
+//! the end is known once the seats of all markers are joined.
 #![tactic(auto)]
 
 pub mod bounds;

@@ -26,7 +26,7 @@ impl Asked for Brand {
     ghost command = { Yield };
 }
 
-/// An address as a type: that of the step's object, with the offset or slot of the step's word there.
+/// An address as a type: the address of the step's object, with the offset or slot of the step's word there.
 pub trait Located {
     ghost at: { ℕ };
 

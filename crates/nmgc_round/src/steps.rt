@@ -305,7 +305,7 @@ impl Round {
     /// there before. This is the position of the command that makes the object, and its row has the object's address as its
     /// answer. From then on the view names header and name, and no unborn word. As in `store_unborn`, that word is loaded
     /// first. If it is already this header, left by an unreferenced object of an earlier round, the load is the allocation.
-    pub fn store_header(
+    pub fn give_birth(
         &self,
         seat: &mut MutatorSeat,
         at: Address,

@@ -48,7 +48,7 @@ EachCycleHasItsRow = (plan : Plan) (run : Run) (rounds : List RoundRows) (stops 
     IsRun plan run → AreRowsOf run rounds stops cycles → answer_of plan (last_state run) ≡ Some end → length cycles ≡ (last_state run).begun
 
 -- a cycle closed soon, by its row: at most (kept - 1) / quota + 1 rounds after its snapshot, with the quotient rounded down.
--- So the rounds before the last can't scan as many objects as the cycle kept
+-- So the rounds before the last can't scan all objects that the cycle kept
 abbrev pub IsClosedSoon : ℕ → CycleRow → Type 0
 IsClosedSoon quota row = row.closed ≤ row.from + ((row.kept - 1) / quota + 1)
 
@@ -70,8 +70,8 @@ AddsOneTurn = (run : Run) (turn : Turn) (rounds : List RoundRows) (stops : List 
 abbrev pub LastIsOfTurn : Type 0
 LastIsOfTurn = (run : Run) (turn : Turn) → last_state (with_turn run turn) ≡ turn.stop.state
 
--- the law that each lawful report of a script within the limits, with few enough commands, is a report of the script's run,
--- and of the run for which it is lawful
+-- the law that each lawful report of a script within the limits, with few enough commands, is a report of the script's run.
+-- It is a report of the run for which it is lawful
 abbrev pub LawfulAreOfRuns : Type 0
 LawfulAreOfRuns = (script : Script) (report : Report) → FitsScript script → HasFewCommands script → (lawful : IsLawful script report) →
     (run : IsRunOf script report) × (run.lawful ≡ lawful)

@@ -26,9 +26,9 @@ pub data Progress : Type 0 where
   marking : (c : Cycle) → Progress
   sweeping : (c : Cycle) (closed : ℕ) → Progress
 
--- the state of a run: the number of its last stop (after a round, of the coming stop), the world of the reference heap, the
--- allocation state and the collector's progress. It also has the number of cycles begun, the requests for a cycle and for a
--- full cycle, and the rest of the programs, but no words, marks or addresses
+-- the state of a run. It has the number of the last stop (after a round, of the coming stop), the world of the reference
+-- heap, the allocation state and the collector's progress. It also has the number of cycles begun, the requests for a cycle
+-- and for a full cycle, and the rest of the programs, but no words, marks or addresses
 pub record State : Type 0 where
   pub number : ℕ
   pub world : World

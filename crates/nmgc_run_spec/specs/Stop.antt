@@ -77,8 +77,8 @@ pub record DoesFullCycle (s t : State) (cycles : List CycleRow) : Type 0 where
   pub cycles_are : cycles ≡ before ++ own
   pub rest : t ≡ record last { collect = false; full = false }
 
--- a cycle is due: no cycle is in progress, and either a cycle was asked for, or `trigger` isn't 0 and at least `trigger`
--- segments were filled since the last cycle began
+-- a cycle is due: none is in progress, and either a cycle was asked for, or `trigger` isn't 0 and at least `trigger` segments
+-- were filled since the last began
 abbrev pub IsCycleDue : Config → State → Type 0
 IsCycleDue config s = (is_idle s.progress ≡ true) × ((s.collect ≡ true) ⊎ ((1 ≤ config.trigger) × (config.trigger ≤ s.allocation.fresh)))
 

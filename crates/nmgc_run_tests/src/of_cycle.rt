@@ -22,7 +22,7 @@ use std::sync::atomic::{AtomicU64, Ordering};
 use std::test::Fail;
 use std::thread::Threads;
 
-// The script with this text.
+// Returns the script that the text spells. Fails if the text is longer than a script may be.
 pub(crate) fn script_of(alloc: Global, text: &str) -> Result<Script, Fail>
     ensures { IfOk result IsInLimits }
 {
@@ -32,7 +32,7 @@ pub(crate) fn script_of(alloc: Global, text: &str) -> Result<Script, Fail>
     Ok(parse(alloc, text.as_bytes())?)
 }
 
-// The text of the script's report.
+// Runs a script under the gate, and returns the text of its report.
 pub(crate) fn reported<R: Threads + Sync, G: Gate>(
     alloc: Global,
     rt: &R,
@@ -44,7 +44,7 @@ pub(crate) fn reported<R: Threads + Sync, G: Gate>(
     Ok(text(alloc, &report)?)
 }
 
-// Whether the script's report has this text.
+// Whether the report of the script's run under the gate has the text `report`.
 pub(crate) fn reports<R: Threads + Sync, G: Gate>(
     alloc: Global,
     rt: &R,
@@ -102,7 +102,7 @@ fn either_update_comes_first(rt: HostRuntime) -> Result<(), Fail> {
     Ok(())
 }
 
-// The number that a mutator's last reply in the first round gave, or 0.
+// Returns the number in the mutator's last reply of the first round, or 0 if there is none.
 fn number_of(report: &Report, mutator: usize) -> u64 {
     let Some(rows) = report.rounds.items().first() else {
         return 0;
@@ -119,7 +119,7 @@ fn number_of(report: &Report, mutator: usize) -> u64 {
     }
 }
 
-// The numbers that the two mutators read under this gate.
+// Runs `RACE` under the gate, and returns the numbers that its two mutators read.
 fn race<R: Threads + Sync, G: Gate>(alloc: Global, rt: &R, gate: &G) -> Result<(u64, u64), Fail> {
     let script = script_of(alloc, RACE)?;
     let reported = Collector::run(alloc, rt, &script, gate)?;
@@ -160,14 +160,14 @@ impl Meet {
         }
     }
 
-    // Whether each has reached its waiting pass, and neither gave up.
+    // Whether each worker has reached its waiting pass, and neither gave up.
     pub(crate) fn has_met(&self) -> bool {
         self.come[0].load(Ordering::SeqCst) == 1
             && self.come[1].load(Ordering::SeqCst) == 1
             && self.given_up.load(Ordering::SeqCst) == 0
     }
 
-    // The last pass of each.
+    // Returns the last pass of each worker.
     fn reached(&self) -> (u64, u64) {
         (
             self.reached[0].load(Ordering::SeqCst),

@@ -30,7 +30,7 @@ struct Meeting {
 }
 
 impl Meeting {
-    // A gate at which these workers and `mutators` mutators wait for each other, all mutators at the same pass.
+    // Makes a gate at which the workers `others` and `mutators` mutators wait for each other, all mutators at pass `turn`.
     fn new(alloc: Global, mutators: u8, turn: u64, others: &[(u8, u64)]) -> Result<Meeting, Fail> {
         let mut awaited = Vec::from_slice(alloc, others)?;
         for mutator in 0..mutators {
@@ -43,7 +43,7 @@ impl Meeting {
         })
     }
 
-    // Whether all have come, and none gave up.
+    // Whether all workers have come, and none gave up.
     fn has_met(&self) -> bool {
         self.come.load(Ordering::SeqCst) == self.awaited.len() as u64
             && self.given_up.load(Ordering::SeqCst) == 0
@@ -65,8 +65,8 @@ impl Gate for Meeting {
     }
 }
 
-// A script of `mutators` mutators. Each makes an object. The first then asks for a cycle, and in the next round, in which the
-// cycle marks, each has one command.
+// Returns a script of `mutators` mutators. Each makes an object. The first then asks for a cycle, and in the next round, in
+// which the cycle marks, each has one command.
 fn many(alloc: Global, mutators: u8) -> Result<String, Fail> {
     let mut text = String::from_str(alloc, "nmgc 2\nheap 1024 64 64 100 1000 0\n")?;
     for mutator in 0..mutators {
@@ -80,7 +80,7 @@ fn many(alloc: Global, mutators: u8) -> Result<String, Fail> {
     Ok(text)
 }
 
-// Checks that a script's run under the gate is the run under an open gate.
+// Checks that a script's run under the gate gives the same report as its run under an open gate.
 fn check_run<R: Threads + Sync + Abort, G: Gate>(
     alloc: Global,
     rt: &R,
@@ -143,7 +143,7 @@ impl Recorder {
         })
     }
 
-    // Whether exactly these workers passed, each this number of times.
+    // Whether exactly the workers in `passes` passed, each as often as its row says, and no pass had a wrong number.
     fn has_seen(&self, passes: &[(u8, u64)]) -> bool {
         let mut sum = 0u64;
         for own in self.last.as_slice() {
@@ -174,7 +174,7 @@ impl Gate for Recorder {
     }
 }
 
-// Checks that exactly these workers pass in a script's run, each this number of times.
+// Checks that in a script's run exactly the workers in `passes` pass the gate, each as often as its row says.
 fn check_passes<R: Threads + Sync + Abort>(
     alloc: Global,
     rt: &R,
@@ -197,7 +197,7 @@ fn each_unit_of_work_has_its_pass(rt: HostRuntime) -> Result<(), Fail> {
     check_passes(rt.alloc(), &rt, THREE_SEGMENTS, &passes)
 }
 
-// A collector after two rounds of a script, each after a stop. `None` if one of these ended the run.
+// Returns a collector after two rounds of a script, each after a stop, or `None` if one of these stops ended the run.
 #[tactic(auto, using(crate::proofs::Rounds::has_line))]
 fn after_two_rounds<R: Threads + Sync, G: Gate>(
     alloc: Global,
@@ -220,8 +220,8 @@ fn after_two_rounds<R: Threads + Sync, G: Gate>(
     Ok(Some(collector))
 }
 
-// A script that overwrites a variable `times` times while a cycle marks, whose collector scans three objects a round. The
-// first overwrite is the mutator's nineteenth command.
+// Returns a script that overwrites a variable `times` times while a cycle marks. Its collector scans three objects a round.
+// The first overwrite is the mutator's nineteenth command.
 fn overwriting(alloc: Global, times: u32) -> Result<String, Fail> {
     let head =
         "nmgc 1\nheap 32 64 64 65536 3 0\nthread 0\nnum r1 5\ncon r4 0 r1\ncon r5 0 r1\nvar r0 r4\n";
@@ -241,7 +241,7 @@ fn overwriting(alloc: Global, times: u32) -> Result<String, Fail> {
     Ok(text)
 }
 
-// The number of entries that the collector took out of the ring in the second round, and the number that the mutator keeps.
+// Returns the number of entries that the collector took from the ring in the second round, and the number that are kept.
 fn taken_and_kept<R: Threads + Sync, G: Gate>(
     alloc: Global,
     rt: &R,

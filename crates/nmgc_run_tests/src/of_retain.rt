@@ -30,7 +30,7 @@ node g arr 0.3 nil nil nil nil nil nil nil nil nil nil nil nil nil nil nil
 end
 ";
 
-// An object of a mutator.
+// Returns the name of a mutator's object.
 fn name(maker: u8, serial: u32) -> Name {
     Name { maker, serial }
 }
@@ -38,7 +38,7 @@ fn name(maker: u8, serial: u32) -> Name {
 // The names of the image's nodes.
 const NAMES: [(u8, u32); 7] = [(0, 0), (0, 1), (0, 2), (0, 3), (1, 0), (1, 1), (32, 0)];
 
-// The image of a text.
+// Returns the image that the text spells.
 fn image_of(alloc: Global, text: &str) -> Result<Image, Fail>
     ensures { IfOk result (IsSpelledWithin (2 ^ 31)) }
 {
@@ -79,7 +79,7 @@ fn an_image_is_read(rt: HostRuntime) -> Result<(), Fail> {
     Ok(())
 }
 
-// A level of a name.
+// Returns the level `level` of a name.
 fn level(name: Name, level: u32) -> Level {
     Level { name, level }
 }
@@ -94,7 +94,7 @@ const LEVELS: [(u8, u32, u32); 6] = [
     (32, 0, 0),
 ];
 
-// Levels as a list.
+// Returns the levels in the rows (maker, serial, level) as a list.
 fn levels(alloc: Global, rows: &[(u8, u32, u32)]) -> Result<Levels, NoMemory> {
     let mut list = List::new(alloc);
     for (maker, serial, hops) in rows {
@@ -113,7 +113,7 @@ type Answer = (
     bool,
 );
 
-// The answer itself.
+// Returns the answer that the row describes.
 fn held(alloc: Global, row: &Answer) -> Result<Retained, NoMemory> {
     let (root, (maker, serial), field, rows, _) = row;
     let mut hops = List::new(alloc);
@@ -133,7 +133,7 @@ fn held(alloc: Global, row: &Answer) -> Result<Retained, NoMemory> {
     })
 }
 
-// Checks that the search answers for each name a path of this many hops, with these levels, and that the judge says yes.
+// Checks that the search answers for each name with a path of its number of hops and these levels, and the judge accepts.
 fn check_paths(
     rt: &impl Abort,
     alloc: Global,
@@ -153,7 +153,7 @@ fn check_paths(
     Ok(())
 }
 
-// Compares the levels.
+// Checks that the levels are the levels of the rows.
 fn check_levels(rt: &impl Abort, reported: &[Level], rows: &[(u8, u32, u32)]) {
     assert!(rt; reported.len() == rows.len());
     for (reported, (maker, serial, hops)) in reported.iter().zip(rows) {
@@ -205,7 +205,7 @@ const ANSWERS: [Answer; 8] = [
     (BY_REGISTER, (0, 2), Some(1), &TOO_FEW, false),
 ];
 
-// Compares the judge's verdict on each answer.
+// Checks that the judge accepts exactly the answers whose rows say so.
 fn check_answers(rt: &impl Abort, alloc: Global, text: &str, rows: &[Answer]) -> Result<(), Fail> {
     let image = image_of(alloc, text)?;
     for row in rows {

@@ -5,11 +5,11 @@ use Rattle.nmgc_limits.specs.{Limits.IsSegmentSize, Limits.most_heap_words, Limi
 use Rattle.nmgc_world_spec.specs.{Command.Fits, Command.HasRegistersBelow, declared.command.Command.Command}
 use Rattle.nmgc_script.specs.{declared.script.Config.Config, declared.script.Script.Script, declared.version.Version.Version, Text.kept_lines}
 
--- the versions of scripts: the most threads of a script, the number of registers, from 0, that its commands may name, the
--- most segments, the most words of all segments and nurseries, and the most bytes of a script. Threads and registers are 8
--- and 16 in version 1, 32 and 64 in versions 2 and 3. There are at most 65,536 segments. The heap has at most 4,194,304 words
--- (32 MiB) in versions 1 and 2, and 268,435,456 words (2 GiB) in version 3. A script has at most 16,777,216 bytes in versions
--- 1 and 2, and 67,108,864 bytes in version 3.
+-- the versions of scripts: the most threads of a script, the number of registers, from 0, that its commands may name, and the
+-- most segments. A version also has the most words of all segments and nurseries, and the most bytes of a script. Threads and
+-- registers are 8 and 16 in version 1, 32 and 64 in versions 2 and 3. There are at most 65,536 segments. The heap has at most
+-- 4,194,304 words (32 MiB) in versions 1 and 2, and 268,435,456 words (2 GiB) in version 3. A script has at most 16,777,216
+-- bytes in versions 1 and 2, and 67,108,864 bytes in version 3.
 abbrev pub version_1 : Version
 version_1 = record { number = 1; threads = 8; registers = 16; segments = 65536; heap_words = 4194304; bytes = 16777216 }
 

@@ -45,7 +45,7 @@ enum Status {
 }
 
 impl Status {
-    // Returns the exit status of the process.
+    // Returns the exit code of the process for this status.
     fn number(self) -> u8 {
         match self {
             Status::Passed => 0,
@@ -87,7 +87,7 @@ fn check_all(rt: &HostRuntime) -> io::Result<Status> {
     }
 }
 
-// Prints why there are no arguments, and returns the status. There was no memory for them, or one is no text.
+// Prints why the arguments can't be read, and returns the status: there was no memory, or an argument is no text.
 fn print_no_arguments(rt: &HostRuntime, kind: io::ErrorKind) -> io::Result<Status> {
     if kind == io::ErrorKind::OutOfMemory {
         println!(rt; "no memory")?;
@@ -102,9 +102,9 @@ fn print_usage(rt: &HostRuntime) -> io::Result<Status> {
     Ok(Status::Usage)
 }
 
-// Checks the trace that an argument names, prints the argument and the result, and returns the status.
+// Checks the trace that an argument names, prints the argument (except `--live`) and the result, and returns the status.
 fn check(rt: &HostRuntime, name: &str) -> io::Result<Status> {
-    let outcome = outcome_of_word(rt, name);
+    let outcome = check_argument(rt, name);
     if name != LIVE {
         print!(rt; "{name}: ")?;
     }
@@ -133,7 +133,7 @@ fn check(rt: &HostRuntime, name: &str) -> io::Result<Status> {
 }
 
 // Checks the trace that an argument names, and returns the outcome.
-fn outcome_of_word(rt: &HostRuntime, name: &str) -> Result<Outcome, TraceFault> {
+fn check_argument(rt: &HostRuntime, name: &str) -> Result<Outcome, TraceFault> {
     let is_live = name == LIVE;
     if is_live || name == "-" {
         let input = io::BufReader::new(rt.alloc(), rt.reader())?;
@@ -143,7 +143,7 @@ fn outcome_of_word(rt: &HostRuntime, name: &str) -> Result<Outcome, TraceFault> 
     check_trace(rt, file, false)
 }
 
-// Checks the trace that a reader gives, drops the reader, and returns the outcome. For `is_asked` see `outcome_of`.
+// Checks a reader's trace, drops the reader, and returns the outcome. If `is_asked`, `ok` answers empty lines of format 2.
 fn check_trace<R: io::BufRead + Drop>(
     rt: &HostRuntime,
     mut reader: R,

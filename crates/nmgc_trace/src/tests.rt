@@ -28,7 +28,7 @@ close
 ";
 
 // Returns the lines of a text of format 1.
-fn lines_of(alloc: Global, text: &str) -> Result<Vec<Line>, Fail> {
+fn lines_in(alloc: Global, text: &str) -> Result<Vec<Line>, Fail> {
     let mut lines = Vec::new(alloc);
     for line in text.lines() {
         lines.push(line_of(alloc, line)?)?;
@@ -36,8 +36,8 @@ fn lines_of(alloc: Global, text: &str) -> Result<Vec<Line>, Fail> {
     Ok(lines)
 }
 
-// Returns the lines of a text of format 2.
-fn output_lines(alloc: Global, text: &str) -> Result<Vec<Meaning>, Fail> {
+// Returns the meanings of the lines of a text of format 2.
+fn meanings_in(alloc: Global, text: &str) -> Result<Vec<Meaning>, Fail> {
     let mut lines = Vec::new(alloc);
     for line in text.lines() {
         lines.push(meaning_of(alloc, line)?)?;
@@ -45,38 +45,38 @@ fn output_lines(alloc: Global, text: &str) -> Result<Vec<Meaning>, Fail> {
     Ok(lines)
 }
 
-// Returns the verdict on a list of lines of format 1, as text.
-fn judged(alloc: Global, text: &str) -> Result<String, Fail> {
-    let lines = lines_of(alloc, text)?;
+// Returns the verdict on the lines of a text of format 1, spelled as text.
+fn verdict_on(alloc: Global, text: &str) -> Result<String, Fail> {
+    let lines = lines_in(alloc, text)?;
     let verdict = judge(alloc, lines.as_slice())?;
     Ok(format!(in alloc; "{verdict}")?)
 }
 
-// Returns the report on a list of lines of format 2.
-fn reported(alloc: Global, text: &str) -> Result<Report, Fail> {
-    let lines = output_lines(alloc, text)?;
+// Returns the report on the lines of a text of format 2.
+fn report_on(alloc: Global, text: &str) -> Result<Report, Fail> {
+    let lines = meanings_in(alloc, text)?;
     Ok(judge_lines(alloc, lines.as_slice())?)
 }
 
 #[test]
 fn lists_of_the_machine_are_judged(rt: HostRuntime) -> Result<(), Fail> {
-    let whole = judged(rt.alloc(), MACHINE)?;
+    let whole = verdict_on(rt.alloc(), MACHINE)?;
     assert!(rt; whole.as_str() == "closed, kept 0.0 g");
-    let empty = judged(rt.alloc(), "mutators 1\nmark\nclose\n")?;
+    let empty = verdict_on(rt.alloc(), "mutators 1\nmark\nclose\n")?;
     assert!(rt; empty.as_str() == "closed, kept g");
     Ok(())
 }
 
 #[test]
 fn lists_of_a_barrier_are_judged(rt: HostRuntime) -> Result<(), Fail> {
-    let due = reported(rt.alloc(), WATCHED)?;
+    let due = report_on(rt.alloc(), WATCHED)?;
     assert!(rt; matches!(&due, Report::Refused(7, _)) && !due.is_whole());
-    let whole = reported(rt.alloc(), "mutators 1\nmark\nclose\nstop\n")?;
+    let whole = report_on(rt.alloc(), "mutators 1\nmark\nclose\nstop\n")?;
     assert!(rt; whole.is_whole());
     Ok(())
 }
 
-// Returns a stream of texts, one after the other.
+// Returns a stream of the bytes of these texts, one after the other.
 fn stream(alloc: Global, parts: &[&str]) -> Result<VecDeque<u8>, Fail> {
     let mut bytes = VecDeque::new(alloc);
     for part in parts {
@@ -101,7 +101,7 @@ impl Read for Cut {
 }
 
 // Whether a fault is reported for a stream that fails after these bytes.
-fn is_fault_printed<P: Print>(alloc: Global, answers: &P, parts: &[&str]) -> Result<bool, Fail> {
+fn is_fault_reported<P: Print>(alloc: Global, answers: &P, parts: &[&str]) -> Result<bool, Fail> {
     let cut = Cut {
         bytes: stream(alloc, parts)?,
     };
@@ -126,8 +126,8 @@ fn a_fault_is_no_end(rt: HostRuntime) -> Result<(), Fail> {
         ],
         ["mutators 1\nmark\n", "close"],
     ] {
-        let printed = is_fault_printed(rt.alloc(), &rt, &parts)?;
-        assert!(rt; printed);
+        let is_reported = is_fault_reported(rt.alloc(), &rt, &parts)?;
+        assert!(rt; is_reported);
     }
     Ok(())
 }

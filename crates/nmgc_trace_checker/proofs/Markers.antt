@@ -30,7 +30,7 @@ given h next n m c answer t k = record {
   world = subst (λ (x : Cycle). IsWorld x.world) (sym k.rest) (step_keeps_world h.world m c t.world k.can);
 }
 
--- a command among several of a line keeps it
+-- each command of a line with several keeps this fact
 after_act : (n m : ℕ) (c : Command) (q after : Watch) → CanAct n m c q after → Stands q → Stands after
 after_act n m c (watch.Between w) after can t =
     subst Stands (sym can.2) (subst IsWorld (sym can.1.2) (step_keeps_world w m c t can.1.0))
@@ -43,7 +43,7 @@ after_rows : (n m : ℕ) (cs : List Command) (q after : Watch) → AreDone n m c
 after_rows n m [] q after h t = subst Stands (sym h) t
 after_rows n m (c ∷ cs) q after h t = after_rows n m cs h.0 after h.2 (after_act n m c q h.0 h.1 t)
 
--- an event keeps it
+-- an event keeps this fact
 after_event : (n : ℕ) (q : Watch) (e : Event) (after : Watch) → Can n q e after → Stands q → Stands after
 after_event n (watch.Between w) (event.Given m c answer) after can t =
     subst Stands (sym can.2) (subst IsWorld (sym can.1.2) (step_keeps_world w m c t can.1.0))

@@ -71,7 +71,7 @@ one_more known now next n p after text t s is says h =
       read = read_on known now next s.lines text t s.read is says;
     }
 
--- up to a refused line
+-- the lines of a trace up to a refused line
 refused_of : (known now : Option (List ℕ)) (lines : List Meaning) (r : Report) (why : Refusal) (n : ℕ) → r ≡ report.Refused n why → Read known lines now →
     IfSome known (λ all. AreWatchedLines (texts_of all) lines r)
 refused_of None now lines r why n is read = tt
@@ -103,7 +103,7 @@ known_refused known now next n p text t why answer s is says refused known_is =
       subst (IsWholeReport all) (sym known_is) tt,
     )
 
--- all lines
+-- the lines of a trace up to its end
 ended_of : (known now next : Option (List ℕ)) (lines : List Meaning) (text : List ℕ) (r : Report) → Read known lines now → IsNextLine now next text false →
     IfSome known (λ all. AreWatchedLines (texts_of all) lines r)
 ended_of None now next lines text r read is = tt
@@ -134,7 +134,7 @@ watched_too_long (Some all) now head n p s last =
 
 -- FORMAT 1
 
--- of the known bytes, and a line before them, these lines were judged; this line, if there, was read, and the rest wasn't
+-- these lines were judged, of a line and the known bytes after it; if reading goes on, this line was read, and not yet judged
 abbrev Judged : Option (List ℕ) → Bool → List ℕ → List Line → Option (List ℕ) → Bool → List ℕ → Type 0
 Judged known is_there first lines now goes_on text = IfSome known (λ all. (rest : List ℕ) × (now ≡ Some rest) ×
     AreSaid SaysLine (ahead is_there first all) lines (ahead goes_on text rest))
@@ -153,7 +153,7 @@ nothing_judged (Some all) is_there first = (all, refl, refl)
 pub nothing_read : (known : Option (List ℕ)) (is_there : Bool) (first : List ℕ) → Reached known is_there first 1 progress.Nothing known is_there first
 nothing_read known is_there first = record { lines = []; count = refl; comes = refl; judged = nothing_judged known is_there first }
 
--- the line is judged
+-- the line that was read is judged
 judge_on : (known : Option (List ℕ)) (is_there : Bool) (first : List ℕ) (lines : List Line) (now : Option (List ℕ)) (goes_on : Bool) (text : List ℕ)
     (l : Line) →
     goes_on ≡ true → Judged known is_there first lines now goes_on text → SaysLine (strip_last 13 (strip_last 10 text)) l →
@@ -166,7 +166,7 @@ judge_on (Some all) is_there first lines now goes_on text l here j s = (
       (rw here at j.2) s,
 )
 
--- and the next line is read
+-- after that the next line is read
 read_next : (known : Option (List ℕ)) (is_there : Bool) (first : List ℕ) (lines : List Line) (now next : Option (List ℕ)) (after : Bool) (text : List ℕ) →
     IfSome known (λ all. (rest : List ℕ) × (now ≡ Some rest) × AreSaid SaysLine (ahead is_there first all) lines (texts_of rest)) →
     IsNextLine now next text after → Judged known is_there first lines next after text
@@ -319,7 +319,7 @@ all_too_long (Some bytes) now is_there line is long =
     let there : IsTooLong (ahead is_there line) (Some is.0) = subst (IsTooLong (ahead is_there line)) is.1 long in
     subst (λ (texts : List (List ℕ)). 2 ^ 64 - 2 ≤ length texts) (sym is.2) there
 
--- with the head
+-- the head and the lines after it are all lines
 pub head_too_long : (old now : Option (List ℕ)) (is_there : Bool) (line : List ℕ) → IsNextLine old now line is_there →
     (is_there && bytes_eq (strip_last 13 (strip_last 10 line)) (codes "trace 2")) ≡ true → IsTooLong (ahead true line) now → IsTooLong texts_of old
 head_too_long old now is_there line is head long =

@@ -60,7 +60,7 @@ no_more (x ∷ xs) (y ∷ ys) o p f = elim (contains_cases y ys x (f x (contains
       omega (arith, rest)
 ]
 
--- if they have its length, they are all its names
+-- names out of an ordered list that are as long as the list are all its names
 same_count : (xs ys : List Name) → IsInOrder xs → IsInOrder ys → ((n : Name) → Contains xs n → Contains ys n) → length ys ≡ length xs → (n : Name) →
     Contains ys n → Contains xs n
 same_count [] [] o p f e n c = c

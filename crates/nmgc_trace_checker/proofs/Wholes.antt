@@ -58,7 +58,7 @@ kept_by n h (event.Marked names) left can = absurd can
 kept_by n h (event.Freed names) left can = absurd can
 kept_by n h event.Stop left can = absurd can
 
--- and no name is due then
+-- no name is due when a close ends a cycle
 paid_by : (n : ℕ) (h : Cycle) (e : Event) (left : CycleResult) → Can n (watch.Marking h) e (watch.Ended left) → h.debts ≡ []
 paid_by n h (event.Given m c answer) left can = absurd (not_marking left can.0 can.2)
 paid_by n h (event.Rows m commands) left can = absurd (rows_marking n m commands h (watch.Ended left) can.1)

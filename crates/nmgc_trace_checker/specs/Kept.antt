@@ -22,7 +22,7 @@ abbrev pub rows_in : List Line → List Row
 rows_in [] = []
 rows_in (l ∷ ls) = row_in l ++ rows_in ls
 
--- the names that a closed trace reports: exactly the names that a cycle has to keep by the rule of weak pointers. Its
+-- the names that a closed trace reports: exactly the names that a cycle has to keep by the rule of weak pointers. The cycle's
 -- snapshot is the world that the lines before `mark` built. The commands after `mark` opened and finalised names, and each
 -- got the answer that the heap gives. Marks play no part
 pub record IsKeptListed (lines : List Line) (names : List Name) : Type 0 where

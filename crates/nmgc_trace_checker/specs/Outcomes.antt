@@ -1,7 +1,7 @@
 -- The result for a trace that is read line by line.
 --
--- Some readers show contracts their bytes, as a slice in memory does. The judged lines are then the lines of these bytes. A
--- file or a pipe doesn't, so there contracts don't say which lines were read; the same code reads them.
+-- Some readers show contracts their bytes, such as a slice in memory. Then the judged lines are the lines of these bytes. A
+-- file or a pipe shows none, so no contract says which lines were read from it; the same code reads them.
 use Rattle.std.specs.Prelude.{◌≡◌, ◌≢◌, ◌≤◌, ◌-◌, ◌^◌, ℕ, List, [], ◌∷◌, length, codes, Option, Bool, true, false, IfSome}
 use Rattle.std.specs.{IoError.error_kind, declared.io.ErrorKind.TheVariants.OutOfMemory}
 use Rattle.nmgc_trace_checker.specs.{declared.line.Line.Line, declared.meaning.Meaning.Meaning, declared.reading.Outcome.Outcome, declared.reading.TraceFault.TraceFault, declared.report.Report.Report, declared.checker.Answer.Answer, declared.verdict.Verdict.Verdict, Kept.ListsKept, Reports.IsReport, Reports.is_whole, Said.texts_of, Said.ahead, Said.AreSaid, Said.Says, Said.SaysLine, Verdicts.IsVerdict, Verdicts.is_passed, Whole.IsWholeReport}
@@ -22,13 +22,13 @@ is_refused_there (verdict.Bad n) = true
 is_refused_there (verdict.Refused n) = true
 is_refused_there v = false
 
--- the lines of format 2 that the texts say, in order, for a report on them: all texts, or the texts up to the refused line
+-- the lines of format 2 that the texts say, in order: of all texts or, if the report refuses a line, up to that line
 pub record AreWatchedLines (texts : List (List ℕ)) (lines : List Meaning) (r : Report) : Type 0 where
   pub left : List (List ℕ)
   pub said : AreSaid Says texts lines left
   pub all : is_refused r ≡ false → left ≡ []
 
--- the lines of format 1 that the texts say, in order, for a verdict on them: all texts, or the texts up to the refused line
+-- the lines of format 1 that the texts say, in order: of all texts or, if the verdict refuses a line, up to that line
 pub record AreMarkedLines (texts : List (List ℕ)) (lines : List Line) (v : Verdict) : Type 0 where
   pub left : List (List ℕ)
   pub said : AreSaid SaysLine texts lines left
@@ -39,7 +39,7 @@ abbrev pub IsWatched : Option (List ℕ) → Answer → Type 0
 IsWatched known answer = (lines : List Meaning) × IfSome known (λ rest. AreWatchedLines (texts_of rest) lines answer.report) ×
     IsReport (meaning.Blank ∷ lines) answer.report × IsWholeReport (meaning.Blank ∷ lines) answer.report
 
--- the verdict on a trace of format 1 whose first line, if any, was read: on it and the lines of the bytes left, if known
+-- the verdict on a trace of format 1: on its first line, if any, which was read, and on the lines of the bytes left, if known
 abbrev pub IsMarked : Option (List ℕ) → Bool → List ℕ → Verdict → Type 0
 IsMarked known is_there line v = (lines : List Line) × IfSome known (λ rest. AreMarkedLines (ahead is_there line rest) lines v) ×
     IsVerdict lines v × ListsKept lines v

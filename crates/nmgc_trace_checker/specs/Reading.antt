@@ -60,7 +60,7 @@ pusher_at who = if bytes_eq who (codes "-") then Some None else (byte_at who >>=
 
 -- ANSWERS
 
--- the answer that a token spells, of a command that was done, or of a test
+-- the answer that a token spells, if it is the answer of a command that was done, or of a test
 unfoldable pub done_at : List ℕ → Option Reply
 done_at word =
     if bytes_eq word (codes "ok") then Some reply.Fine
@@ -70,7 +70,7 @@ done_at word =
     else if bytes_eq word (codes "already") then Some reply.Already
     else None
 
--- the answer that a token spells, of a command that can't be done
+-- the answer that a token spells, if it is the answer of a command that can't be done
 unfoldable pub refused_at : List ℕ → Option Reply
 refused_at word =
     if bytes_eq word (codes "nopointer") then Some reply.NoPointer
@@ -80,7 +80,7 @@ refused_at word =
     else if bytes_eq word (codes "fixed") then Some reply.Fixed
     else None
 
--- the answer that a token spells, of a weak pointer, a queue or a stack that gives nothing
+-- the answer that a token spells, if it says that nothing is given: `dead`, `none`, `stackfull` or `stackempty`
 unfoldable pub nothing_at : List ℕ → Option Reply
 nothing_at word =
     if bytes_eq word (codes "dead") then Some reply.Dead
@@ -100,12 +100,12 @@ reply_at word = or_else (done_at word) (or_else (refused_at word) (or_else (noth
 
 -- COMMANDS WITH THEIR ANSWERS
 
--- the parts of a line of tokens with one more token at the front of the command
+-- the tokens of a command and of its answer, with one more token at the front of the command
 abbrev pub onto_command : List ℕ → Option (List (List ℕ) × List ℕ) → Option (List (List ℕ) × List ℕ)
 onto_command word None = None
 onto_command word (Some p) = Some (word ∷ p.0, p.1)
 
--- the tokens of a command, and the token of its answer after the sign
+-- the tokens of a command, and the token of its answer after the sign `=`
 abbrev pub answered_at : List (List ℕ) → Option (List (List ℕ) × List ℕ)
 answered_at [] = None
 answered_at (word ∷ []) = None
@@ -222,7 +222,7 @@ rows_at (verb ∷ words) =
     else if bytes_eq verb (codes "fill") then (filling_at words >>= λ k. Some (filled_of k))
     else None
 
--- the commands of the copy or the fill that tokens spell, if the answer is that it was done
+-- the commands of the copy or the fill that tokens spell, if the answer says that it was done
 abbrev pub rows_if : Reply → List (List ℕ) → Option (List Command)
 rows_if reply.Fine words = rows_at words
 rows_if answer words = None
@@ -266,7 +266,7 @@ unfoldable pub stop_at : List (List ℕ) → Option Meaning
 stop_at [] = Some (meaning.Event event.Stop)
 stop_at words = None
 
--- the meaning of the end of a cycle or of the trace, or of a report on the last cycle
+-- the meaning of a line that ends a cycle or the trace, or reports on the last cycle; none for any other line
 unfoldable pub ending_at : List ℕ → List (List ℕ) → Option Meaning
 ending_at word words =
     if bytes_eq word (codes "close") then close_at words
@@ -341,7 +341,7 @@ unfoldable pub drain_line_at : List (List ℕ) → Option Line
 drain_line_at [] = Some line.Drain
 drain_line_at words = None
 
--- the meaning of a line about the marker, in format 1
+-- the meaning of a line of format 1 about the marker; none for any other line
 unfoldable pub marker_line_at : List ℕ → List (List ℕ) → Option Line
 marker_line_at word words =
     if bytes_eq word (codes "scan") then scan_line_at words
@@ -350,7 +350,7 @@ marker_line_at word words =
     else if bytes_eq word (codes "drain") then drain_line_at words
     else None
 
--- the meaning of a line of format 1 that begins with a keyword
+-- the meaning of a line of format 1 that begins with a keyword; none if it begins otherwise, or if its rest is wrong
 unfoldable pub plain_line_at : List (List ℕ) → Option Line
 plain_line_at [] = None
 plain_line_at (word ∷ words) =

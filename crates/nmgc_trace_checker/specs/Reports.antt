@@ -15,7 +15,7 @@ abbrev pub CanBegin : Begun → ℕ → Begun → Type 0
 CanBegin begun.Nothing count next = (1 ≤ count) × (count ≤ MAKERS) × (next ≡ begun.Watching (watch.Between (new_world count)))
 CanBegin (begun.Watching p) count next = ⊥
 
--- an event can happen in a trace: there are mutators, and it can happen by the watch
+-- an event can happen in a trace: the number of mutators was given, and the watch lets the event happen
 abbrev pub CanHappen : ℕ → Begun → Event → Begun → Type 0
 CanHappen n begun.Nothing e next = ⊥
 CanHappen n (begun.Watching p) e next = (after : Watch) × Can n p e after × (next ≡ begun.Watching after)
@@ -28,23 +28,23 @@ Happens n p (meaning.Mutators count) next = CanBegin p count next
 Happens n p (meaning.Event e) next = CanHappen n p e next
 Happens n p meaning.Unknown next = ⊥
 
--- the reason why a number of mutators can't be given: there are mutators already, or it is too small or too great
+-- the reason why a number of mutators can't be given: there are mutators already, or the number is too small or too great
 abbrev pub WhyNoBegin : Begun → ℕ → Refusal → Type 0
 WhyNoBegin begun.Nothing count r = (r ≡ refusal.Misplaced) × (1 ≤ count → count ≤ MAKERS → ⊥)
 WhyNoBegin (begun.Watching p) count r = r ≡ refusal.Misplaced
 
--- a refusal of an event for a reason that the watch has
+-- a refusal of an event for a reason that is a fact in this state of the watch
 abbrev pub IsReason : Watch → Event → Refusal → Type 0
 IsReason p e refusal.Unknown = ⊥
 IsReason p e refusal.Misplaced = ⊥
 IsReason p e (refusal.Event y) = IsWhy p e y
 
--- the reason why an event can't happen: there are no mutators, or the watch has a reason
+-- the reason why an event can't happen: there are no mutators yet, or the watch has a reason
 abbrev pub WhyNoEvent : Begun → Event → Refusal → Type 0
 WhyNoEvent begun.Nothing e r = r ≡ refusal.Misplaced
 WhyNoEvent (begun.Watching p) e r = IsReason p e r
 
--- a refusal of a line that is a fact in this state
+-- a refusal of a line whose reason is a fact in this state
 abbrev pub IsRefusal : Begun → Meaning → Refusal → Type 0
 IsRefusal p meaning.Blank r = ⊥
 IsRefusal p (meaning.Mutators count) r = WhyNoBegin p count r
@@ -61,7 +61,7 @@ abbrev pub Comes : ℕ → Begun → List Meaning → Begun → Type 0
 Comes n p [] last = last ≡ p
 Comes n p (t ∷ ts) last = (next : Begun) × Happens n p t next × Comes (n + 1) next ts last
 
--- a refused trace: the lines before line `n` (from 1) can happen, in order. Line `n` can't, for a reason that is a fact
+-- a refused trace: the lines before line `n` (from 1) can happen, in order, and line `n` can't, for a reason that is a fact
 pub record EndsAtLine (lines : List Meaning) (n : ℕ) (r : Refusal) : Type 0 where
   pub earlier : List Meaning
   pub line : Meaning
@@ -73,7 +73,7 @@ pub record EndsAtLine (lines : List Meaning) (n : ℕ) (r : Refusal) : Type 0 wh
   pub refused : IsRefusal before line r
 
 -- the report on a trace whose lines can all happen, by its state. No cycle has begun, a cycle goes on, the last cycle has
--- ended, or the trace was stopped after that and so is whole
+-- ended, or the trace was stopped after the end of a cycle and so is whole
 abbrev pub report_of : Begun → Report
 report_of begun.Nothing = report.Unmarked
 report_of (begun.Watching (watch.Between w)) = report.Unmarked
@@ -95,7 +95,7 @@ IsReport lines report.Open = EndsWell lines report.Open
 IsReport lines report.Cut = EndsWell lines report.Cut
 IsReport lines report.Whole = EndsWell lines report.Whole
 
--- whether a trace is whole: each line can happen, and it was stopped; the program's exit status depends on it
+-- whether a trace is whole: each line can happen, and the trace was stopped. The program's exit status shows it
 abbrev pub is_whole : Report → Bool
 is_whole (report.Refused n r) = false
 is_whole report.Unmarked = false

@@ -21,13 +21,13 @@ use Rattle.nmgc_trace_checker.specs.declared.meaning.Meaning.TheVariants as mean
 abbrev pub texts_of : List ℕ → List (List ℕ)
 texts_of bytes = map (λ line. strip_last 13 line) (lines_of bytes)
 
--- the first of these texts say these items, one by one, and these texts are left
+-- the first of `texts` say these items, one each and in order, and the texts `left` follow them
 abbrev pub AreSaid : {A : Type 0} → (List ℕ → A → Type 0) → List (List ℕ) → List A → List (List ℕ) → Type 0
 AreSaid says texts [] left = texts ≡ left
 AreSaid says [] (said ∷ others) left = ⊥
 AreSaid says (text ∷ texts) (said ∷ others) left = says text said × AreSaid says texts others left
 
--- the texts still to be judged, after a line was read with its end: this line and the lines of the rest, or none
+-- the texts still to be judged after a read: the line that was read with its end, and the lines of the rest; or none
 abbrev pub ahead : Bool → List ℕ → List ℕ → List (List ℕ)
 ahead true line rest = strip_last 13 (strip_last 10 line) ∷ texts_of rest
 ahead false line rest = []
@@ -51,7 +51,7 @@ IsReply answer = Unit {0}
 abbrev pub given_words : ℕ → List (List ℕ) → List ℕ → List (List ℕ)
 given_words m words answer = decimal m ∷ words ++ codes "=" ∷ answer ∷ []
 
--- tokens that say a mutator's command, one that a script may have with segments of 4096 words, and its answer
+-- tokens that say a mutator's command and its answer. The command may be in a script with segments of 4096 words
 pub record IsGiven (words : List (List ℕ)) (m : ℕ) (c : Command) (answer : Reply) : Type 0 where
   pub mutator : m < 256
   pub fits : Fits 4096 c
@@ -63,7 +63,7 @@ abbrev pub copy_words : Copying → List (List ℕ)
 copy_words k = codes "copy" ∷ operand_word k.to ∷ decimal k.place ∷ operand_word k.from ∷ decimal k.first ∷ decimal k.count ∷ codes "via" ∷
     register_word k.via ∷ []
 
--- a copy that a line may have: its numbers are a command's, and it goes downwards if the fields move up
+-- a copy that a line may have: its operands and numbers may be in a command, and it goes downwards if the fields move up
 pub record IsCopying (k : Copying) : Type 0 where
   pub to : IsOperand k.to
   pub place : k.place < 65536
@@ -73,7 +73,7 @@ pub record IsCopying (k : Copying) : Type 0 where
   pub via : IsRegister k.via
   pub down : k.down ≡ nat_lt k.first k.place
 
--- tokens that say a copy that was done, as commands
+-- tokens that say a copy that was done, with the commands of the copy
 pub record IsCopied (words : List (List ℕ)) (m : ℕ) (commands : List Command) : Type 0 where
   pub mutator : m < 256
   pub copying : Copying
@@ -92,7 +92,7 @@ pub record IsFilling (k : Filling) : Type 0 where
   pub count : k.count < 65536
   pub value : IsOperand k.value
 
--- tokens that say a fill that was done, as commands
+-- tokens that say a fill that was done, with the commands of the fill
 pub record IsFilled (words : List (List ℕ)) (m : ℕ) (commands : List Command) : Type 0 where
   pub mutator : m < 256
   pub filling : Filling
@@ -100,7 +100,7 @@ pub record IsFilled (words : List (List ℕ)) (m : ℕ) (commands : List Command
   pub words_are : words ≡ given_words m (fill_words filling) (codes "ok")
   pub commands_are : commands ≡ filled filling filling.count
 
--- the pusher: a mutator, or the collector itself
+-- the token of a pusher: a mutator, or a hyphen for the collector itself
 abbrev pub IsPusher : List ℕ → Type 0
 IsPusher who = (who ≡ codes "-") ⊎ ((m : ℕ) × (m < 256) × (who ≡ decimal m))
 
@@ -129,15 +129,14 @@ SaysEvent words (event.Marked names) = AreNames words (codes "marked") names
 SaysEvent words (event.Freed names) = AreNames words (codes "freed") names
 SaysEvent words event.Stop = words ≡ codes "stop" ∷ []
 
--- a text that is no line of a trace: it isn't passed over, and says nothing else
+-- a text that is no line of a trace: it is neither empty nor a comment, and has no other meaning
 pub record SaysNothing (text : List ℕ) : Type 0 where
   pub kept : is_blank_or_comment text ≡ false
   pub mutators : (count : ℕ) → IsMutators (tokens_of text) count → ⊥
   pub event : (e : Event) → SaysEvent (tokens_of text) e → ⊥
 
--- the meaning of a line of format 2, by its tokens with single spaces between. It is a command with its answer, a number or
--- names, each spelled as in scripts and reports. An empty line or a line that begins with `#` says nothing. A line that is
--- spelled as nothing else is no line of a trace
+-- the meaning of a line of format 2, by its tokens with single spaces between. Commands, answers, numbers and names are
+-- spelled as in scripts and reports. An empty line or a line that begins with `#` says nothing. Other texts are no lines
 abbrev pub Says : List ℕ → Meaning → Type 0
 Says text meaning.Blank = is_blank_or_comment text ≡ true
 Says text (meaning.Mutators count) = IsMutators (tokens_of text) count
@@ -146,7 +145,7 @@ Says text meaning.Unknown = SaysNothing text
 
 -- FORMAT 1
 
--- tokens that say an event of the marking machine; a take has its name (`SaysLine`)
+-- tokens that say an event of the marking machine, except a take: its line also has the name (`IsTakeOf`)
 abbrev pub SaysCore : List (List ℕ) → CoreEvent → Type 0
 SaysCore words (core.Command m c answer) = IsGiven words m c answer
 SaysCore words (core.Push m) = (m < 256) × (words ≡ codes "push" ∷ decimal m ∷ [])
@@ -158,7 +157,7 @@ SaysCore words core.Close = words ≡ codes "close" ∷ []
 abbrev pub IsTakeOf : List (List ℕ) → ℕ → Name → Type 0
 IsTakeOf words m name = (m < 256) × IsName name × (words ≡ codes "take" ∷ decimal m ∷ name_text name ∷ [])
 
--- a text that is no line of a trace of format 1: it isn't passed over, and says nothing else
+-- a text that is no line of a trace of format 1: it is neither empty nor a comment, and has no other meaning
 pub record SaysNoLine (text : List ℕ) : Type 0 where
   pub kept : is_blank_or_comment text ≡ false
   pub mutators : (count : ℕ) → IsMutators (tokens_of text) count → ⊥
@@ -167,7 +166,7 @@ pub record SaysNoLine (text : List ℕ) : Type 0 where
   pub take : (m : ℕ) (name : Name) → IsTakeOf (tokens_of text) m name → ⊥
   pub drain : tokens_of text ≡ codes "drain" ∷ [] → ⊥
 
--- the meaning of a line of format 1, by its tokens. A line that is kept and says nothing else is no line of a trace.
+-- the meaning of a line of format 1, by its tokens. Any text without another meaning is no line of a trace
 abbrev pub SaysLine : List ℕ → Line → Type 0
 SaysLine text line.Blank = is_blank_or_comment text ≡ true
 SaysLine text (line.Mutators count) = IsMutators (tokens_of text) count

@@ -1,6 +1,6 @@
 -- When a line of a trace of format 1 can happen: by the marking machine alone.
 --
--- Before `mark` commands build a world; from then on each line is an event of the marking machine.
+-- The commands before `mark` build a world; from then on each line is an event of the marking machine.
 use Rattle.std.specs.Prelude.{◌≡◌, ◌≤◌, ◌↔◌, ◌⊎◌, ◌-◌, ◌^◌, ℕ, zero, suc, List, [], ◌∷◌, Option, Some, None, Result, Ok, Err, Bool, true, false, Contains}
 use Rattle.nmgc_lists.specs.declared.memory.NoMemory.{NoMemory}
 use Rattle.nmgc_world_spec.specs.{declared.value.Name.Name, World.World, World.new_world, Step.CanApply, Step.step}
@@ -11,7 +11,7 @@ use Rattle.nmgc_trace_checker.specs.{declared.line.Line.Line, declared.progress.
 use Rattle.nmgc_trace_checker.specs.declared.line.Line.TheVariants as line
 use Rattle.nmgc_trace_checker.specs.declared.progress.Progress.TheVariants as progress
 
--- an event can happen before marking: it is a command that can be given and that the heap does with this answer
+-- an event can happen before marking: it is a command that can be given, and the heap gives this answer
 abbrev pub IsAnswered : World → Event → World → Type 0
 IsAnswered w (event.Command m c answer) next = CanApply w m c × (step w m c ≡ (next, answer))
 IsAnswered w (event.Push m) next = ⊥
@@ -33,13 +33,13 @@ CanStart progress.Nothing count next = (1 ≤ count) × (count ≤ MAKERS) × (n
 CanStart (progress.Building w) count next = ⊥
 CanStart (progress.Marking s) count next = ⊥
 
--- marking can begin, once, with the world that was built as the snapshot
+-- marking can begin, once; its snapshot is the world that was built
 abbrev pub CanMark : Progress → Progress → Type 0
 CanMark progress.Nothing next = ⊥
 CanMark (progress.Building w) next = next ≡ progress.Marking (opening w)
 CanMark (progress.Marking s) next = ⊥
 
--- an event can happen in a trace: before marking a command, and then any event that the machine can do
+-- an event can happen in a trace: before marking, a command with the heap's answer; later, any event that the machine can do
 abbrev pub CanHappen : Progress → Event → Progress → Type 0
 CanHappen progress.Nothing e next = ⊥
 CanHappen (progress.Building w) e next = (after : World) × IsAnswered w e after × (next ≡ progress.Building after)
@@ -67,7 +67,7 @@ CanDrain (progress.Building w) next = ⊥
 CanDrain (progress.Marking s) next = (after : State) × IsDrain s after × (next ≡ progress.Marking after)
 
 -- a line that can happen, with the progress before and after it. `mutators` comes once, first, and `mark` once, with the
--- built world as the snapshot. Before `mark` come commands with the heap's answers, then events that the machine can do
+-- built world as the snapshot. Commands with the heap's answers come before `mark`, events that the machine can do after it
 abbrev pub Can : Progress → Line → Progress → Type 0
 Can p line.Blank next = next ≡ p
 Can p (line.Mutators count) next = CanStart p count next
@@ -89,13 +89,13 @@ Comes p (l ∷ ls) last = (next : Progress) × Can p l next × Comes next ls las
 
 -- RESULTS OF TESTS: true with the step that was done, and false if none could be done
 
--- the answer of a test whether an event before marking can happen: if so, `next` is the world after it, and otherwise no
--- world is
+-- the result of a test whether an event can happen before marking: true with the world `next` after it, or false if no world
+-- can be after it
 abbrev pub IsAnsweredIf : World → Event → Bool → World → Type 0
 IsAnsweredIf w e true next = IsAnswered w e next
 IsAnsweredIf w e false next = (other : World) → IsAnswered w e other → ⊥
 
--- the answer of a test whether a name can be taken: if it can, `next` is the state after that, and otherwise no state is
+-- the result of a test whether a name can be taken: true with the state `next` after it, or false if no state can follow
 abbrev pub IsTakeIf : State → ℕ → Name → Bool → State → Type 0
 IsTakeIf s m name true next = IsTake s m name next
 IsTakeIf s m name false next = (other : State) → IsTake s m name other → ⊥

@@ -17,7 +17,7 @@ refusal_of (line.Take m name) n = verdict.Refused n
 refusal_of line.Drain n = verdict.Refused n
 refusal_of line.Unknown n = verdict.Bad n
 
--- the verdict on a trace with a refused or bad line: the lines before it can happen, in order, from nothing, and it can't
+-- the verdict on a trace with a refused or bad line: the lines before this line can happen, in order, and it can't
 pub record EndsAtLine (lines : List Line) (meaning : Verdict) : Type 0 where
   pub earlier : List Line
   pub line : Line
@@ -28,7 +28,7 @@ pub record EndsAtLine (lines : List Line) (meaning : Verdict) : Type 0 where
   pub cannot : (next : Progress) → Can before line next → ⊥
   pub known_is : meaning ≡ refusal_of line (length earlier + 1)
 
--- whether a trace passes: each line can happen, and marking has ended; the program's exit status depends on it
+-- whether a trace passes: each line can happen, and marking has ended. The program's exit status shows it
 abbrev pub is_passed : Verdict → Bool
 is_passed (verdict.Bad n) = false
 is_passed (verdict.Refused n) = false

@@ -1,4 +1,4 @@
--- The facts that a trace of format 2 shows of the marker beside its barrier, which isn't in the trace.
+-- The facts that a trace of format 2 shows about the marker, though the marker isn't in the trace.
 use Rattle.std.specs.Prelude.{◌≡◌, ◌↔◌, ◌+◌, List, ◌∷◌, ◌++◌, length, Contains}
 use Rattle.nmgc_world_spec.specs.{declared.value.Name.Name, World.World, World.IsWorld}
 use Rattle.nmgc_snapshot_laws.specs.declared.event.Event.TheVariants as core
@@ -20,9 +20,9 @@ pub record Closes (lines : List Meaning) (h : Cycle) (left : CycleResult) : Type
   pub comes : Comes 1 begun.Nothing earlier (begun.Watching (watch.Marking h))
   pub ends : Can (length earlier + 1) (watch.Marking h) close (watch.Ended left)
 
--- an exact cycle. It began with a world, and got to its state by commands and pushes. Beside it a marker is possible that has
--- taken all pushed names and read all that it marked. Each such marker can end, and ends exactly, whatever it took and read
--- when. A marker that ends has marked exactly the names reported as kept
+-- an exact cycle. It began with a world, and commands and pushes led to its state. A finished marker is possible beside it,
+-- with all pushed names taken and all marked objects read. Each finished marker can end, and ends exactly, in whatever order
+-- it took names and read objects. A marker that ends has marked exactly the names reported as kept
 pub record IsExact (h : Cycle) (left : CycleResult) : Type 0 where
   pub begins : World
   pub is_world : IsWorld begins
@@ -32,7 +32,7 @@ pub record IsExact (h : Cycle) (left : CycleResult) : Type 0 where
   pub marks : (s next : State) → Beside begins h s → IsPossible s core.Close → IsClosing s next → (name : Name) →
       Contains next.marked name ↔ Contains left.kept name
 
--- the theorem's fact of a report: a cycle ends in a whole trace, and each cycle that ends in it is exact
+-- the theorem about a report: in a whole trace a cycle ends, and each cycle that ends is exact
 abbrev pub IsWholeReport : List Meaning → Report → Type 0
 IsWholeReport lines (report.Refused n r) = Unit {0}
 IsWholeReport lines report.Unmarked = Unit {0}

@@ -1,7 +1,7 @@
 //! The state of a trace of format 2 as its lines come.
 //!
-//! A line is judged as it comes, and only its effect is kept. A text is kept if its line made a name due, in the current
-//! cycle, that its mutator didn't owe before: at most one for each name and mutator. It may be reported beside its number.
+//! A line is judged as it comes, and only its effect is kept. Its text is kept if it made a name due in this cycle
+//! that its mutator didn't owe before: at most one text for each name and mutator. A refusal may report this text.
 ghost use Rattle.std.specs.Prelude.{◌≡◌, None, IfOk, OnOk};
 ghost use Rattle.nmgc_trace_checker.specs.{Reports.IsHappening, Reports.report_of, Said.Says, declared.meaning.Meaning.Meaning as MeaningAt};
 ghost use Rattle.nmgc_trace_checker.specs.declared.report.Begun.TheVariants as begun;
@@ -53,9 +53,9 @@ impl TraceChecker {
         }
     }
 
-    /// Takes the line with this number and text (without its end), or returns the reason why the line is refused; then
-    /// `refusal_answer` gives the answer. After a refusal or `NoMemory` the checker may be in any state. Takes the time and
-    /// memory of `Watch::step`, and memory for the text.
+    /// Judges the next line, by this number and text (without its end). Returns `None` if it happened, or the reason why it
+    /// is refused; then `refusal_answer` gives the answer. After a refusal or `NoMemory` the checker may be in any state.
+    /// Takes the time and memory of `Watch::step`, and memory for the text.
     pub fn line(
         &mut self,
         alloc: Global,
@@ -112,7 +112,7 @@ impl TraceChecker {
         }
     }
 
-    /// Returns the answer to a trace whose line with this number was refused for this reason.
+    /// Returns the answer to a trace whose line `number` was refused for this reason. Takes memory for the text.
     pub fn refusal_answer(
         self,
         alloc: Global,
@@ -121,7 +121,7 @@ impl TraceChecker {
     ) -> Result<Answer, NoMemory>
         ensures { IfOk result (λ answer. answer.report ≡ report.Refused number refusal) }
     {
-        let since = self.since(alloc, refusal);
+        let since = self.due_line_text(alloc, refusal);
         let counts = self.counts;
         drop(self);
         Ok(Answer {
@@ -131,8 +131,8 @@ impl TraceChecker {
         })
     }
 
-    // Returns the text of the line since which a name is due, if that is why the line was refused.
-    fn since(&self, alloc: Global, refusal: Refusal) -> Result<Option<String>, NoMemory> {
+    // If the refusal is for a name that is due, returns the text of the line that made it due, if that text was kept.
+    fn due_line_text(&self, alloc: Global, refusal: Refusal) -> Result<Option<String>, NoMemory> {
         let Refusal::Event(Why::Due(debt)) = refusal else {
             return Ok(None);
         };

@@ -1,9 +1,9 @@
 //! Commands of a mutator with their answers, as both formats spell them.
 //!
-//! A command is spelled as in a script, so `nmgc_script` reads it, as the only command of a script. Values are spelled as in
-//! a report, so `nmgc_journal` reads them.
+//! A command is spelled as in a script, so `nmgc_script` reads it, as the only command of a script. Its `parse` promises both
+//! ways, so this needs no change there. Values are spelled as in a report, so `nmgc_journal` reads them.
 //!
-//! Easy to get wrong: a line feed within a command would make two lines of it in that script, so such a command is refused.
+//! Easy to get wrong: a line feed within a command would make two lines of that script, so such a command is refused.
 ghost use Rattle.std.specs.Prelude.{◌≡◌, ◌↔◌, ◌≤◌, ◌^◌, ◌++◌, ◌∷◌, [], map, codes, length, None, Some, Contains, IsTrue, IfSome, IfNone, IfOk, OnOk};
 ghost use Rattle.nmgc_io.specs.Text.{after_spaces, spaced};
 ghost use Rattle.nmgc_trace_checker.specs.Reading.{done_at, refused_at, nothing_at, reply_at, answered_at, parts_at, script_head, IsCommandIf, IsSpelledIf, IsLastIf, IsLastOf};
@@ -34,7 +34,7 @@ pub(crate) fn parts<'w, 'a>(words: &'w [&'a [u8]]) -> Option<(u8, &'w [&'a [u8]]
     Some((mutator, command, answer))
 }
 
-// Splits tokens into the tokens of a command and the token of its answer after the sign.
+// Splits tokens into the tokens of a command and the token of its answer after the sign `=`, or returns `None`.
 fn answered<'w, 'a>(words: &'w [&'a [u8]]) -> Option<(&'w [&'a [u8]], &'a [u8])>
     ensures some { IfSome result (λ p. answered_at (map (λ w. w.now) words.now) ≡ Some (map (λ w. w.now) p.0.now, p.1.now)) }
     ensures none { IfNone result (answered_at (map (λ w. w.now) words.now) ≡ None) }
@@ -56,13 +56,13 @@ fn answered<'w, 'a>(words: &'w [&'a [u8]]) -> Option<(&'w [&'a [u8]], &'a [u8])>
 fn reply(word: &[u8]) -> Option<Reply>
     ensures { result ≡ reply_at word.now }
 {
-    if let Some(reply) = done(word) {
+    if let Some(reply) = done_answer(word) {
         return Some(reply);
     }
-    if let Some(reply) = refused(word) {
+    if let Some(reply) = refused_answer(word) {
         return Some(reply);
     }
-    if let Some(reply) = nothing(word) {
+    if let Some(reply) = empty_answer(word) {
         return Some(reply);
     }
     Some(Reply::Given(read_value(word)?))
@@ -70,7 +70,7 @@ fn reply(word: &[u8]) -> Option<Reply>
 
 // Returns the answer that a token spells, if it is the answer of a command that was done, or of a test.
 #[tactic(auto, unfolding(crate::specs::Reading::done_at))]
-fn done(word: &[u8]) -> Option<Reply>
+fn done_answer(word: &[u8]) -> Option<Reply>
     ensures { result ≡ done_at word.now }
 {
     if word == b"ok".as_slice() {
@@ -93,7 +93,7 @@ fn done(word: &[u8]) -> Option<Reply>
 
 // Returns the answer that a token spells, if it is the answer of a command that can't be done.
 #[tactic(auto, unfolding(crate::specs::Reading::refused_at))]
-fn refused(word: &[u8]) -> Option<Reply>
+fn refused_answer(word: &[u8]) -> Option<Reply>
     ensures { result ≡ refused_at word.now }
 {
     if word == b"nopointer".as_slice() {
@@ -116,7 +116,7 @@ fn refused(word: &[u8]) -> Option<Reply>
 
 // Returns the answer that a token spells, if it says that nothing is given: `dead`, `none`, `stackfull` or `stackempty`.
 #[tactic(auto, unfolding(crate::specs::Reading::nothing_at))]
-fn nothing(word: &[u8]) -> Option<Reply>
+fn empty_answer(word: &[u8]) -> Option<Reply>
     ensures { result ≡ nothing_at word.now }
 {
     if word == b"dead".as_slice() {

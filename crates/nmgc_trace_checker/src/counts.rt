@@ -27,7 +27,7 @@ impl Counts {
         dues: 0,
     };
 
-    /// Counts a line that could happen, and made `dues` names due.
+    /// Counts a line that happened and made `dues` names due.
     pub fn add(&mut self, meaning: &Meaning, dues: u64) {
         self.dues = self.dues.saturating_add(dues);
         if let Meaning::Event(event) = meaning {
@@ -35,7 +35,7 @@ impl Counts {
         }
     }
 
-    // Counts an event.
+    // Counts an event if it is a command, a push or the end of a cycle.
     fn add_event(&mut self, event: &Event) {
         match event {
             Event::Given { .. } | Event::Rows { .. } => self.commands = self

@@ -1,10 +1,10 @@
 //! The meaning of a trace of a runtime's barrier, and the verdict on it.
 //!
 //! - Format 1: `line` is the meaning of a line, `progress` the state of a trace, `verdict` the result. The marking machine
-//!   (`nmgc_core`) does its lines one by one, marker included.
-//! - Format 2: `meaning` is the meaning of a line, `report` the result for a trace, and `checker` the same line by line, with
-//!   `counts` of them. Its barrier is watched (`nmgc_barrier_checker`), cycle by cycle, and the first line that can't happen is
-//!   reported with the reason; `sentence` words it.
+//!   (`nmgc_core`) does the lines one by one, marker included.
+//! - Format 2: `meaning` is the meaning of a line, and `report` the result for a trace. `checker` finds it line by line, with
+//!   `counts` of the lines. The barrier is watched (`nmgc_barrier_checker`), cycle by cycle. The first line that can't happen
+//!   is reported with the reason, which `sentence` spells.
 //! - `reading`: a trace of either format, read line by line.
 //!
 //! The judge of each format is proved over lists of lines: a refused line is the first that can't happen, and the lines

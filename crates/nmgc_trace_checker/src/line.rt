@@ -49,54 +49,54 @@ pub fn line_of(alloc: Global, text: &str) -> Result<Line, NoMemory>
 fn line_by(alloc: Global, words: &[&[u8]]) -> Result<Line, NoMemory>
     ensures { IfOk result (IsLineBy (plain_line_at (map (λ w. w.now) words.now)) (map (λ w. w.now) words.now)) }
 {
-    match plain(words) {
+    match keyword_line(words) {
         Some(line) => Ok(line),
-        None => given(alloc, words),
+        None => mutator_line(alloc, words),
     }
 }
 
 // Returns the meaning of a line that begins with a keyword, or `None` if it begins otherwise or its rest is wrong.
 #[tactic(auto, unfolding(crate::specs::Reading::plain_line_at))]
-fn plain(words: &[&[u8]]) -> Option<Line>
+fn keyword_line(words: &[&[u8]]) -> Option<Line>
     ensures { result ≡ plain_line_at (map (λ w. w.now) words.now) }
 {
     let [word, rest @ ..] = words else {
         return None;
     };
     if *word == b"mutators".as_slice() {
-        return mutators(rest);
+        return count_line(rest);
     }
     if *word == b"mark".as_slice() {
-        return mark(rest);
+        return mark_line(rest);
     }
     if *word == b"push".as_slice() {
-        return push(rest);
+        return push_line(rest);
     }
-    marker(word, rest)
+    marker_line(word, rest)
 }
 
 // Returns the meaning of a line about the marker, or `None` for any other line.
 #[tactic(auto, unfolding(crate::specs::Reading::marker_line_at))]
-fn marker(word: &[u8], rest: &[&[u8]]) -> Option<Line>
+fn marker_line(word: &[u8], rest: &[&[u8]]) -> Option<Line>
     ensures { result ≡ marker_line_at word.now (map (λ w. w.now) rest.now) }
 {
     if word == b"scan".as_slice() {
-        return scan(rest);
+        return scan_line(rest);
     }
     if word == b"take".as_slice() {
-        return take(rest);
+        return take_line(rest);
     }
     if word == b"close".as_slice() {
-        return close(rest);
+        return close_line(rest);
     }
     if word == b"drain".as_slice() {
-        return drain(rest);
+        return drain_line(rest);
     }
     None
 }
 
 #[tactic(auto, unfolding(crate::specs::Reading::count_line_at))]
-fn mutators(words: &[&[u8]]) -> Option<Line>
+fn count_line(words: &[&[u8]]) -> Option<Line>
     ensures { result ≡ count_line_at (map (λ w. w.now) words.now) }
 {
     let [count] = words else {
@@ -106,7 +106,7 @@ fn mutators(words: &[&[u8]]) -> Option<Line>
 }
 
 #[tactic(auto, unfolding(crate::specs::Reading::mark_line_at))]
-fn mark(words: &[&[u8]]) -> Option<Line>
+fn mark_line(words: &[&[u8]]) -> Option<Line>
     ensures { result ≡ mark_line_at (map (λ w. w.now) words.now) }
 {
     let [] = words else {
@@ -116,7 +116,7 @@ fn mark(words: &[&[u8]]) -> Option<Line>
 }
 
 #[tactic(auto, unfolding(crate::specs::Reading::push_line_at))]
-fn push(words: &[&[u8]]) -> Option<Line>
+fn push_line(words: &[&[u8]]) -> Option<Line>
     ensures { result ≡ push_line_at (map (λ w. w.now) words.now) }
 {
     let [mutator] = words else {
@@ -127,7 +127,7 @@ fn push(words: &[&[u8]]) -> Option<Line>
 }
 
 #[tactic(auto, unfolding(crate::specs::Reading::scan_line_at))]
-fn scan(words: &[&[u8]]) -> Option<Line>
+fn scan_line(words: &[&[u8]]) -> Option<Line>
     ensures { result ≡ scan_line_at (map (λ w. w.now) words.now) }
 {
     let [] = words else {
@@ -137,7 +137,7 @@ fn scan(words: &[&[u8]]) -> Option<Line>
 }
 
 #[tactic(auto, unfolding(crate::specs::Reading::take_line_at))]
-fn take(words: &[&[u8]]) -> Option<Line>
+fn take_line(words: &[&[u8]]) -> Option<Line>
     ensures { result ≡ take_line_at (map (λ w. w.now) words.now) }
 {
     let [mutator, name] = words else {
@@ -149,7 +149,7 @@ fn take(words: &[&[u8]]) -> Option<Line>
 }
 
 #[tactic(auto, unfolding(crate::specs::Reading::close_line_at))]
-fn close(words: &[&[u8]]) -> Option<Line>
+fn close_line(words: &[&[u8]]) -> Option<Line>
     ensures { result ≡ close_line_at (map (λ w. w.now) words.now) }
 {
     let [] = words else {
@@ -159,7 +159,7 @@ fn close(words: &[&[u8]]) -> Option<Line>
 }
 
 #[tactic(auto, unfolding(crate::specs::Reading::drain_line_at))]
-fn drain(words: &[&[u8]]) -> Option<Line>
+fn drain_line(words: &[&[u8]]) -> Option<Line>
     ensures { result ≡ drain_line_at (map (λ w. w.now) words.now) }
 {
     let [] = words else {
@@ -169,7 +169,7 @@ fn drain(words: &[&[u8]]) -> Option<Line>
 }
 
 // Returns the meaning of a mutator's command with its answer. Any other tokens are no line of a trace.
-fn given(alloc: Global, words: &[&[u8]]) -> Result<Line, NoMemory>
+fn mutator_line(alloc: Global, words: &[&[u8]]) -> Result<Line, NoMemory>
     ensures { IfOk result (IsLineGiven (parts_at (map (λ w. w.now) words.now))) }
 {
     let Some((mutator, words, answer)) = parts(words) else {

@@ -47,61 +47,61 @@ pub fn meaning_of(alloc: Global, text: &str) -> Result<Meaning, NoMemory>
 fn meaning_by(alloc: Global, words: &[&[u8]]) -> Result<Meaning, NoMemory>
     ensures { IfOk result (IsMeaningBy (plain_at (map (λ w. w.now) words.now)) (map (λ w. w.now) words.now)) }
 {
-    let plain = plain(alloc, words)?;
+    let plain = keyword_meaning(alloc, words)?;
     match plain {
         Some(meaning) => Ok(meaning),
-        None => given(alloc, words),
+        None => mutator_meaning(alloc, words),
     }
 }
 
 // Returns the meaning of a line that begins with a keyword, or `None` if it begins otherwise or its rest is wrong.
 #[tactic(auto, unfolding(crate::specs::Reading::plain_at))]
-fn plain(alloc: Global, words: &[&[u8]]) -> Result<Option<Meaning>, NoMemory>
+fn keyword_meaning(alloc: Global, words: &[&[u8]]) -> Result<Option<Meaning>, NoMemory>
     ensures { IfOk result (λ meaning. meaning ≡ plain_at (map (λ w. w.now) words.now)) }
 {
     let [word, rest @ ..] = words else {
         return Ok(None);
     };
     if *word == b"mutators".as_slice() {
-        return Ok(mutators(rest));
+        return Ok(mutators_meaning(rest));
     }
     if *word == b"mark".as_slice() {
-        return Ok(mark(rest));
+        return Ok(mark_meaning(rest));
     }
     if *word == b"push".as_slice() {
-        return Ok(push(rest));
+        return Ok(push_meaning(rest));
     }
     if *word == b"settle".as_slice() {
-        return Ok(settle(rest));
+        return Ok(settle_meaning(rest));
     }
     if *word == b"take".as_slice() {
-        return Ok(take(rest));
+        return Ok(take_meaning(rest));
     }
-    ending(alloc, word, rest)
+    ending_meaning(alloc, word, rest)
 }
 
-// Returns the meaning of the end of a cycle or of the trace, or of a report on the last cycle; `None` for any other line.
+// Returns the meaning of a line that ends a cycle or the trace, or reports on the last cycle; `None` for any other line.
 #[tactic(auto, unfolding(crate::specs::Reading::ending_at))]
-fn ending(alloc: Global, word: &[u8], rest: &[&[u8]]) -> Result<Option<Meaning>, NoMemory>
+fn ending_meaning(alloc: Global, word: &[u8], rest: &[&[u8]]) -> Result<Option<Meaning>, NoMemory>
     ensures { IfOk result (λ meaning. meaning ≡ ending_at word.now (map (λ w. w.now) rest.now)) }
 {
     if word == b"close".as_slice() {
-        return close(alloc, rest);
+        return close_meaning(alloc, rest);
     }
     if word == b"marked".as_slice() {
-        return marked(alloc, rest);
+        return marked_meaning(alloc, rest);
     }
     if word == b"freed".as_slice() {
-        return freed(alloc, rest);
+        return freed_meaning(alloc, rest);
     }
     if word == b"stop".as_slice() {
-        return Ok(stop(rest));
+        return Ok(stop_meaning(rest));
     }
     Ok(None)
 }
 
 #[tactic(auto, unfolding(crate::specs::Reading::mutators_at))]
-fn mutators(words: &[&[u8]]) -> Option<Meaning>
+fn mutators_meaning(words: &[&[u8]]) -> Option<Meaning>
     ensures { result ≡ mutators_at (map (λ w. w.now) words.now) }
 {
     let [count] = words else {
@@ -111,7 +111,7 @@ fn mutators(words: &[&[u8]]) -> Option<Meaning>
 }
 
 #[tactic(auto, unfolding(crate::specs::Reading::mark_at))]
-fn mark(words: &[&[u8]]) -> Option<Meaning>
+fn mark_meaning(words: &[&[u8]]) -> Option<Meaning>
     ensures { result ≡ mark_at (map (λ w. w.now) words.now) }
 {
     let [] = words else {
@@ -121,7 +121,7 @@ fn mark(words: &[&[u8]]) -> Option<Meaning>
 }
 
 #[tactic(auto, unfolding(crate::specs::Reading::push_at))]
-fn push(words: &[&[u8]]) -> Option<Meaning>
+fn push_meaning(words: &[&[u8]]) -> Option<Meaning>
     ensures { result ≡ push_at (map (λ w. w.now) words.now) }
 {
     let [who, name] = words else {
@@ -133,7 +133,7 @@ fn push(words: &[&[u8]]) -> Option<Meaning>
 }
 
 #[tactic(auto, unfolding(crate::specs::Reading::settle_at))]
-fn settle(words: &[&[u8]]) -> Option<Meaning>
+fn settle_meaning(words: &[&[u8]]) -> Option<Meaning>
     ensures { result ≡ settle_at (map (λ w. w.now) words.now) }
 {
     let [mutator] = words else {
@@ -144,7 +144,7 @@ fn settle(words: &[&[u8]]) -> Option<Meaning>
 }
 
 #[tactic(auto, unfolding(crate::specs::Reading::take_at))]
-fn take(words: &[&[u8]]) -> Option<Meaning>
+fn take_meaning(words: &[&[u8]]) -> Option<Meaning>
     ensures { result ≡ take_at (map (λ w. w.now) words.now) }
 {
     let [name] = words else {
@@ -155,7 +155,7 @@ fn take(words: &[&[u8]]) -> Option<Meaning>
 }
 
 #[tactic(auto, unfolding(crate::specs::Reading::close_at))]
-fn close(alloc: Global, words: &[&[u8]]) -> Result<Option<Meaning>, NoMemory>
+fn close_meaning(alloc: Global, words: &[&[u8]]) -> Result<Option<Meaning>, NoMemory>
     ensures { IfOk result (λ meaning. meaning ≡ close_at (map (λ w. w.now) words.now)) }
 {
     let [_, ..] = words else {
@@ -168,7 +168,7 @@ fn close(alloc: Global, words: &[&[u8]]) -> Result<Option<Meaning>, NoMemory>
 }
 
 #[tactic(auto, unfolding(crate::specs::Reading::marked_at))]
-fn marked(alloc: Global, words: &[&[u8]]) -> Result<Option<Meaning>, NoMemory>
+fn marked_meaning(alloc: Global, words: &[&[u8]]) -> Result<Option<Meaning>, NoMemory>
     ensures { IfOk result (λ meaning. meaning ≡ marked_at (map (λ w. w.now) words.now)) }
 {
     let Some(names) = names(alloc, words)? else {
@@ -178,7 +178,7 @@ fn marked(alloc: Global, words: &[&[u8]]) -> Result<Option<Meaning>, NoMemory>
 }
 
 #[tactic(auto, unfolding(crate::specs::Reading::freed_at))]
-fn freed(alloc: Global, words: &[&[u8]]) -> Result<Option<Meaning>, NoMemory>
+fn freed_meaning(alloc: Global, words: &[&[u8]]) -> Result<Option<Meaning>, NoMemory>
     ensures { IfOk result (λ meaning. meaning ≡ freed_at (map (λ w. w.now) words.now)) }
 {
     let Some(names) = names(alloc, words)? else {
@@ -188,7 +188,7 @@ fn freed(alloc: Global, words: &[&[u8]]) -> Result<Option<Meaning>, NoMemory>
 }
 
 #[tactic(auto, unfolding(crate::specs::Reading::stop_at))]
-fn stop(words: &[&[u8]]) -> Option<Meaning>
+fn stop_meaning(words: &[&[u8]]) -> Option<Meaning>
     ensures { result ≡ stop_at (map (λ w. w.now) words.now) }
 {
     let [] = words else {
@@ -198,7 +198,7 @@ fn stop(words: &[&[u8]]) -> Option<Meaning>
 }
 
 // Returns the meaning of a mutator's commands with their answer. Any other tokens are no line of a trace.
-fn given(alloc: Global, words: &[&[u8]]) -> Result<Meaning, NoMemory>
+fn mutator_meaning(alloc: Global, words: &[&[u8]]) -> Result<Meaning, NoMemory>
     ensures { IfOk result (IsMeaningOfRow (parts_at (map (λ w. w.now) words.now))) }
 {
     let Some((mutator, words, answer)) = parts(words) else {
@@ -264,7 +264,7 @@ fn copying(words: &[&[u8]]) -> Option<Copying>
     copy(to, place, from, first, count, via)
 }
 
-// Returns the copy that six tokens spell. If the fields move up, it goes downwards, so that none is overwritten unread.
+// Returns the copy that six tokens spell. If the fields move up, it goes downwards, so that each is read before it changes.
 #[tactic(auto, unfolding(crate::specs::Reading::copy_at))]
 fn copy(
     to: &[u8],

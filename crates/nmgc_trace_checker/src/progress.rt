@@ -1,8 +1,8 @@
 //! The state of a trace of format 1, line by line.
 //!
-//! Before `mark` commands build a world; from then on each line is an event of the marking machine, which does it or refuses
-//! it. Only one thing is decided here: the machine's take has no name, and a trace has the name that the runtime took. So it
-//! is compared with the names that the take marked.
+//! The commands before `mark` build a world; from then on each line is an event of the marking machine, which does it or
+//! refuses it. Only one thing is decided here: the machine's take has no name, and a trace has the name that the runtime
+//! took. So this name is compared with the names that the take marked.
 //!
 //! A line that can't happen ends the trace, so `after` takes the progress and gives none back.
 //!
@@ -56,12 +56,12 @@ impl Built {
         Box::into_inner(world)
     }
 
-    // Does the event's command in this world, and returns whether the command could be done with the event's answer. After
+    // Applies the event's command to this world, and returns whether the event is a command that gets its answer. After
     // `false` this may be any world.
     fn answers(&mut self, event: &Event) -> Result<bool, NoMemory>
         ensures { IfOk result (λ done. IsAnsweredIf self.old event.now done self.new) }
     {
-        is_answered(&mut self.world, event)
+        apply_answered(&mut self.world, event)
     }
 }
 
@@ -102,7 +102,7 @@ impl Progress {
         ensures { IfOk result (IsNext self (line_is.Mutators count)) }
     {
         match self {
-            Progress::Nothing => started(alloc, count),
+            Progress::Nothing => start_building(alloc, count),
             Progress::Building(built) => {
                 drop(built);
                 Ok(None)
@@ -147,7 +147,7 @@ impl Progress {
         }
     }
 
-    // Returns the progress after the marker took `name` from a mutator, or `None` exactly if it can't do so.
+    // Returns the progress after the marker took `name` from a mutator, or `None` exactly if it can't take that name there.
     fn take(self, mutator: u8, name: Name) -> Result<Option<Self>, NoMemory>
         ensures { IfOk result (IsNext self (line_is.Take mutator name)) }
     {
@@ -184,7 +184,7 @@ impl Progress {
         }
     }
 
-    // Returns the progress if the line happened, and otherwise `None`.
+    // Returns this progress if the line happened, and otherwise `None`.
     fn if_happened(self, happened: Result<bool, NoMemory>) -> Result<Option<Self>, NoMemory>
         ensures { result ≡ next_if self happened }
     {
@@ -203,7 +203,7 @@ impl Progress {
 }
 
 // Returns the progress with the empty heap of `count` mutators, or `None` exactly if that number isn't allowed.
-fn started(alloc: Global, count: u8) -> Result<Option<Progress>, NoMemory>
+fn start_building(alloc: Global, count: u8) -> Result<Option<Progress>, NoMemory>
     ensures { IfOk result (IsNext Progress.Nothing (line_is.Mutators count)) }
 {
     if count == 0 || count > MAKERS {
@@ -213,9 +213,9 @@ fn started(alloc: Global, count: u8) -> Result<Option<Progress>, NoMemory>
     Ok(Some(Progress::Building(built)))
 }
 
-// Does the event's command in a world, and returns whether the command could be done with the event's answer. After `false`
-// the world may be any.
-fn is_answered(world: &mut World, event: &Event) -> Result<bool, NoMemory>
+// Applies the event's command to a world, and returns whether the event is a command that gets its answer. After `false` the
+// world may be any.
+fn apply_answered(world: &mut World, event: &Event) -> Result<bool, NoMemory>
     ensures { IfOk result (λ done. IsAnsweredIf world.old event.now done world.new) }
 {
     match event {
@@ -233,7 +233,7 @@ fn is_answered(world: &mut World, event: &Event) -> Result<bool, NoMemory>
     }
 }
 
-// Takes the first name that a mutator pushed. Returns whether the marker could do so and thereby marked just `name`.
+// Lets the marker take the first name that a mutator pushed. Returns whether it could, and thereby marked just `name`.
 fn takes(core: &mut Core, mutator: u8, name: Name) -> Result<bool, NoMemory>
     ensures { IfOk result (λ done. IsTakeIf core.old mutator name done core.new) }
 {
@@ -257,7 +257,7 @@ fn drain(core: &mut Core) -> Result<(), NoMemory>
     Ok(())
 }
 
-// Whether `name` is in `after` and, if `name` is in `before` too, whether both lists have the same length.
+// Whether `name` is in `after`, and both lists have the same length if `name` is in `before` too.
 fn is_joined(before: &[Name], after: &[Name], name: Name) -> bool
     ensures { IsTrue result ↔ (Contains after.now name × (Contains before.now name → length after.now ≡ length before.now)) }
 {

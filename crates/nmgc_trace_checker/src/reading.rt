@@ -1,7 +1,7 @@
 //! A trace, read line by line.
 //!
 //! The first line determines the format. A line is judged when read, and then forgotten, except for texts that `checker`
-//! keeps. So it takes the memory of the trace's heap, and answers a runtime that writes into a pipe at the wrong line.
+//! keeps. So reading takes the memory of the heap, and a runtime that writes into a pipe is answered at the wrong line.
 ghost use Rattle.std.specs.Prelude.{◌≡◌, ◌&&◌, true, codes, string_bytes, IfErr, IfOk};
 ghost use Rattle.std.specs.{Io.BufRead.strip_last, Str.bytes_eq};
 ghost use Rattle.nmgc_trace_checker.specs.{declared.reading.TraceFault.TheVariants.NoMemory as no_memory, Outcomes.IsFault, Outcomes.IsTooLong, Outcomes.IsOutcome, Outcomes.IsMarked, Outcomes.IsWatched, Outcomes.is_passed_of, Said.IsNextLine, Said.ahead, Said.texts_of};
@@ -77,13 +77,13 @@ impl From<io::Error> for TraceFault {
     }
 }
 
-/// Reads a trace up to its end, or to the first line that can't happen, and returns the outcome. The outcome is what `judge`
-/// or `judge_lines` reports for some lines. If the reader shows contracts its bytes, these are the lines of that text, in
-/// order, all or up to the refused line. The first line determines the format. If `is_asked`, each empty line of a trace of
-/// format 2 is answered by `ok` once all lines before it have happened. Takes memory for the trace's heap, its longest line,
-/// and the commands of its longest copy or fill. In format 2 also for the texts of lines that made names due in the current
-/// cycle, at most one for each name and mutator. An error is the reason why there is no outcome; `TooLong` means 2^64 - 2
-/// lines or more. Counts and the text of a line are tested.
+/// Reads a trace up to its end, or to the first line that can't happen, and returns the outcome: what `judge` or
+/// `judge_lines` reports for some lines. If the reader shows contracts its bytes, these are the lines of that text, in order,
+/// all or up to the refused line. The first line determines the format. If `is_asked`, each empty line of a trace of format 2
+/// is answered by `ok` once all lines before it have happened. Takes memory for the trace's heap, its longest line, and the
+/// commands of its longest copy or fill. In format 2 also for the texts of lines that made names due in the current cycle, at
+/// most one for each name and mutator. An error is the reason why there is no outcome; `TooLong` means 2^64 - 2 lines or
+/// more. No clause gives a fault its cause. Counts and the text of a line are tested.
 pub fn outcome_of<R: BufRead, P: Print>(
     alloc: Global,
     reader: &mut R,
@@ -103,7 +103,7 @@ pub fn outcome_of<R: BufRead, P: Print>(
     Ok(Outcome::Marked(verdict))
 }
 
-// Returns the verdict on a trace of format 1 whose first line, `text`, was read if it `is_there`.
+// Judges a trace of format 1, and returns the verdict. If `is_there`, its first line was read and is `text`.
 fn marked<R: BufRead>(
     alloc: Global,
     reader: &mut R,
@@ -132,7 +132,7 @@ fn marked<R: BufRead>(
     Err(TraceFault::TooLong)
 }
 
-// Returns the answer to a trace of format 2 whose first line, `text`, was read.
+// Judges a trace of format 2 whose first line, `text`, was read, and returns the answer.
 fn watched<R: BufRead, P: Print>(
     alloc: Global,
     reader: &mut R,

@@ -56,11 +56,11 @@ impl Report {
     }
 }
 
-/// Returns the report on lines of a trace of format 2. It is `Refused` exactly if a line can't happen after the lines before
-/// it, which all can, in order. It then has the first such line, with a reason that is a fact there. Otherwise each line can
-/// happen, and the report is the state after them. It is `Whole` exactly if each line can happen and the last event is a
-/// stop, so a cycle ended without debts. Beside each cycle that ended a finished marker is possible, each finished marker can
-/// end there, and a marker that ends has marked exactly the names reported as kept. The marker isn't in the trace.
+/// Returns the report on lines of a trace of format 2. It is `Refused` exactly if some line can't happen after the lines
+/// before it. It then has the first such line, with a reason that is a fact there. Otherwise each line can happen, and the
+/// report is the state after them. It is `Whole` exactly if each line can happen and the last event is a stop. Then a cycle
+/// ended without debts. A finished marker is possible beside each cycle that ended, and each finished marker can end there. A
+/// marker that ends has marked exactly the names reported as kept. The marker isn't in the trace.
 pub fn judge_lines(alloc: Global, lines: &[Meaning]) -> Result<Report, NoMemory>
     ensures report { IfOk result (IsReport lines.now) }
     ensures whole { IfOk result (IsWholeReport lines.now) }
@@ -78,7 +78,7 @@ pub fn judge_lines(alloc: Global, lines: &[Meaning]) -> Result<Report, NoMemory>
     Ok(report)
 }
 
-/// Does a line, or returns the reason why the line can't happen.
+/// Changes the state by a line, and returns `None`, or the reason why the line can't happen.
 pub(crate) fn happen(
     begun: &mut Begun,
     alloc: Global,
@@ -101,7 +101,7 @@ pub(crate) fn happen(
     }
 }
 
-// Begins with the empty heap of `count` mutators. If something has begun or that number isn't allowed, returns a refusal.
+// Begins with the empty heap of `count` mutators. Returns a refusal if there are mutators already or `count` isn't allowed.
 fn start(begun: &mut Begun, alloc: Global, count: u8) -> Result<Option<Refusal>, NoMemory>
     ensures { IfOk result (λ refused. IsHappening 0 begun.old (known_is.Mutators count) refused begun.new) }
 {

@@ -80,7 +80,7 @@ fn write_about<W: fmt::Write>(f: &mut fmt::Formatter<W>, name: Name, what: &str)
     write!(f, " {what}")
 }
 
-/// Writes a name.
+/// Writes a name as a trace spells it.
 pub(crate) fn write_name<W: fmt::Write>(f: &mut fmt::Formatter<W>, name: Name) -> fmt::Result {
     if name.maker == SHARED_MAKER {
         return write!(f, "g");

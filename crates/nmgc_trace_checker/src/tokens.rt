@@ -13,7 +13,7 @@ use nmgc_lists::{List, NoMemory};
 use nmgc_world_spec::{Name, Operand};
 use std::alloc::Global;
 
-// Returns the number of at most `limit` that a token spells, or `None`.
+// Returns the number up to `limit` that a token spells, or `None`.
 fn number(word: &[u8], limit: u64) -> Option<u64>
     ensures gives { result ≡ number_at limit word.now }
     ensures within { IfSome result (λ n. n ≤ limit) }

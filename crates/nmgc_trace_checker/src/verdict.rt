@@ -66,8 +66,8 @@ fn write_names<W: fmt::Write>(f: &mut fmt::Formatter<W>, names: &[Name]) -> fmt:
     Ok(())
 }
 
-/// Returns the verdict on the lines of a trace of format 1. The verdict is `Bad` or `Refused` exactly if a line can't happen
-/// after the lines before it, which all can, in order; it has the first such line. `Open` and `Closed` list exactly the names
+/// Returns the verdict on the lines of a trace of format 1. The verdict is `Bad` or `Refused` exactly if some line can't
+/// happen after the lines before it, and has the number of the first such line. `Open` and `Closed` list exactly the names
 /// that the marking machine has marked after all lines. So `Closed` has exactly the names that a cycle has to keep, by the
 /// heap and the commands alone. The snapshot of this cycle is the heap that the commands before `mark` built.
 pub fn judge(alloc: Global, lines: &[Line]) -> Result<Verdict, NoMemory>
@@ -86,7 +86,7 @@ pub fn judge(alloc: Global, lines: &[Line]) -> Result<Verdict, NoMemory>
     Ok(meaning)
 }
 
-/// Returns the verdict on a trace whose line `line` can't happen.
+/// Returns the verdict on a trace whose line `line`, with this number, can't happen: `Bad` if it is no line of a trace.
 pub(crate) fn refusal(line: &Line, number: usize) -> Verdict
     ensures { result ≡ refusal_of line.now number }
 {
@@ -105,13 +105,13 @@ pub(crate) fn refusal(line: &Line, number: usize) -> Verdict
 pub(crate) fn verdict_at_end(progress: Progress) -> Result<Verdict, NoMemory>
     ensures { IfOk result (IsVerdictAfter progress) }
 {
-    let meaning = meaning_of(&progress);
+    let meaning = verdict_of(&progress);
     drop(progress);
     meaning
 }
 
 // Returns the verdict on a trace that ends with this progress.
-fn meaning_of(progress: &Progress) -> Result<Verdict, NoMemory>
+fn verdict_of(progress: &Progress) -> Result<Verdict, NoMemory>
     ensures { IfOk result (IsVerdictAfter progress.now) }
 {
     let Progress::Marking(core) = progress else {

@@ -50,7 +50,8 @@ pub struct Death {
     pub finaliser: u64,
 }
 
-/// The list of weak pointers that have a block. Contracts see the list, its room for further ones, and the last deaths.
+/// The list of weak pointers that have a block. Contracts see the list, its room for further weak pointers, and the last
+/// deaths.
 #[derive(Drop)]
 pub struct Weaks {
     // The rows, by maker.
@@ -302,9 +303,9 @@ impl Weaks {
         List::in_place(names, place)
     }
 
-    /// Takes the weak pointer at an address out of the list, if the list has one at this address and its value word is 0:
-    /// then it was finalised since the last stop. The name word has to be its name, by which it is found. The rest of the
-    /// list, room, deaths and words stay. Takes no memory, and logarithmic time, or time for a row if over half has left.
+    /// If the list has a weak pointer at this address, and its value word is 0, takes it out of the list: it was finalised
+    /// since the last stop. The name word has to be its name, by which it is found. The rest of the list, room, deaths and
+    /// words stay. Takes no memory, and logarithmic time, or time for a row if over half has left.
     pub fn leave_at<W: HeapWords>(&mut self, words: &mut W, at: Address)
         requires inside { value_place at.0 < length (W.words words.old) }
         requires named { IsNamedAt (W.words words.old) at.0 self.old.list }

@@ -3,7 +3,7 @@ use Rattle.std.proofs.Common.{ℕ, List, Ok, Err}
 use Rattle.std.specs.Prelude.{IfOk}
 use Rattle.nmgc_cli.specs.{Answer.Reported, Answer.IsRan, Answer.IsOfScript, Output.AnswersBytes}
 
--- a report that answers bytes is of a run of a script
+-- a report that answers bytes is a report of a run of some script within the limits
 pub of_bytes : (bytes : List ℕ) (answer : Reported) → AnswersBytes IsRan bytes answer → IfOk answer IsOfScript
 of_bytes bytes (Ok report) h = record { script = h.0; limits = h.2.limits; run = h.2.run }
 of_bytes bytes (Err refusal) h = tt

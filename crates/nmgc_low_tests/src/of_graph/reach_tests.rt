@@ -269,7 +269,7 @@ fn is_there(world: &World, name: Name) -> bool
 // Compares the answers of a world with a row.
 fn compare(rt: &impl Abort, world: &World, row: &Row) -> Result<(), NoMemory> {
     assert!(rt; are_there(world, row.extra));
-    let live = world.live_names(row.extra)?;
+    let live = world.live(row.extra)?;
     assert!(rt; live.items() == row.live);
     let dead = world.dead_weaks(row.extra, row.finalised)?;
     assert!(rt; dead.items() == row.dead);
@@ -329,12 +329,12 @@ fn a_long_list(rt: HostRuntime) -> Result<(), Fail> {
     for _ in 0..100_000 {
         give(&rt, rt.alloc(), &mut world, 0, Step::Con(0, 0))?;
     }
-    let live = world.live_names(&[])?;
+    let live = world.live(&[])?;
     assert!(rt; live.items().len() == 100_001);
     let kept = world.kept(&[], &[])?;
     assert!(rt; kept.items().len() == 100_001);
     give(&rt, rt.alloc(), &mut world, 0, Step::Nil(0))?;
-    let live = world.live_names(&[])?;
+    let live = world.live(&[])?;
     assert!(rt; live.items().len() == 1);
     Ok(())
 }
@@ -353,12 +353,12 @@ fn a_long_chain_of_weak_pointers(rt: HostRuntime) -> Result<(), Fail> {
     }
     give(&rt, rt.alloc(), &mut world, 0, Step::Nil(5))?;
     give(&rt, rt.alloc(), &mut world, 0, Step::Nil(6))?;
-    let live = world.live_names(&[])?;
+    let live = world.live(&[])?;
     assert!(rt; live.items().len() == 40_002);
     let dead = world.dead_weaks(&[], &[])?;
     assert!(rt; dead.items().len() == 0);
     give(&rt, rt.alloc(), &mut world, 0, Step::Nil(4))?;
-    let live = world.live_names(&[])?;
+    let live = world.live(&[])?;
     assert!(rt; live.items().len() == 1);
     let dead = world.dead_weaks(&[], &[])?;
     assert!(rt; dead.items().len() == 20_000);

@@ -70,7 +70,7 @@ kept 0
 end done
 ";
 
-// The number of one call.
+// Returns a list of failing calls: the number of this call alone.
 pub fn listed(alloc: Global, call: u64) -> Result<Vec<u64>, AllocError> {
     let mut calls = Vec::new(alloc);
     calls.push(call)?;
@@ -78,7 +78,7 @@ pub fn listed(alloc: Global, call: u64) -> Result<Vec<u64>, AllocError> {
 }
 
 // Does the task that the arguments ask for over these bytes, read in pieces of 5 bytes and written in pieces of `piece`. The
-// read and the write of these numbers fail; no call has number 0.
+// read numbered `read` and the write numbered `write` fail; no call has number 0.
 pub fn run_arguments<R: Threads + Sync>(
     rt: &R,
     alloc: Global,
@@ -98,7 +98,7 @@ pub fn run_arguments<R: Threads + Sync>(
     Ok(Run { ended, sink })
 }
 
-// The answer to the first `cut` bytes of the script with one object.
+// Returns the status and the text of `run` for the first `cut` bytes of the script with one object.
 fn report_of_text(cut: usize) -> (Status, &'static str) {
     match cut {
         0..=5 => (Status::BadScript, "bad line 1 version\n"),
@@ -157,7 +157,7 @@ const READERS: [(&[&str], &str, &str, bool); 6] = [
 // The same for a bench, which reads nothing.
 const BENCH: [(&[&str], &str, &str, bool); 1] = [(&["bench", "1"], "", ONE_BATCH, true)];
 
-// Checks that each single read that fails is reported: one for each piece, and one that finds the end.
+// Checks that each single read can fail alone and is reported: one read for each piece, and one that finds the end.
 fn check_reads<R: Threads + Sync + Abort>(
     rt: &R,
     alloc: Global,
@@ -175,8 +175,8 @@ fn check_reads<R: Threads + Sync + Abort>(
     Ok(())
 }
 
-// Checks that each single write that fails is reported, with the bytes written before. Checks that all is written if none of
-// these reads and writes fails.
+// Checks that each write can fail alone: the status is `WriteFault`, and the sink has exactly the bytes written before it.
+// Checks that all bytes are written if no read and no write fails.
 fn check_writes<R: Threads + Sync + Abort>(
     rt: &R,
     alloc: Global,

@@ -16,7 +16,7 @@ use std::sync::atomic::{AtomicU64, Ordering};
 use std::test::Fail;
 use std::thread::Threads;
 
-// A script of three chains of sixteen objects. The first and the last object of the second chain are dropped.
+// Returns a script of three chains of sixteen objects. The first and the last object of the second chain are dropped.
 fn chains(alloc: Global) -> Result<Vec<u8>, AllocError> {
     let mut script = Vec::from_slice(alloc, b"nmgc 1\nheap 32 64 256 100 1000 0\nthread 0\n")?;
     for line in ["con r0 0 r0 r1\n", "con r2 0 r2 r1\n", "con r3 0 r3 r1\n"] {
@@ -28,7 +28,7 @@ fn chains(alloc: Global) -> Result<Vec<u8>, AllocError> {
     Ok(script)
 }
 
-// The report of a script's bytes.
+// Runs the script that the bytes spell, and returns its report.
 #[tactic(auto, using(crate::proofs::Reports::of_bytes))]
 fn report_of<R: Threads + Sync>(alloc: Global, rt: &R, bytes: &[u8]) -> Result<Report, Refusal>
     requires { length bytes.now ≤ most_script_bytes }
@@ -48,7 +48,7 @@ struct Meet {
 }
 
 impl Meet {
-    // Whether both have come, and neither gave up.
+    // Whether each marker has reached its first object, and neither gave up.
     fn has_met(&self) -> bool {
         self.reached[0].load(Ordering::SeqCst) >= 1
             && self.reached[1].load(Ordering::SeqCst) >= 1

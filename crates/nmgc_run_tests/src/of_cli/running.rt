@@ -9,7 +9,7 @@ pub struct Run {
     pub sink: MemorySink,
 }
 
-// By hand, so that each drop calls this function.
+// Written by hand, so that each drop calls this function.
 impl Drop for Run {
     fn drop(self) {
         let Run { ended, sink } = self;
@@ -18,7 +18,7 @@ impl Drop for Run {
     }
 }
 
-// The arguments of a command line.
+// Returns the arguments as a list of strings.
 pub fn all_arguments(alloc: Global, arguments: &[&str]) -> Result<Vec<String>, AllocError> {
     let mut all = Vec::new(alloc);
     for argument in arguments {

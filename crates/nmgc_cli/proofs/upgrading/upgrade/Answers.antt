@@ -12,4 +12,4 @@ returns g c =
     let e = c.in_ok-bytes.ensures in
     let long = c.in_ok-bytes.bytes.ok.0 in
     read_answers IsUpgraded _ _ _ c.in_ok-bytes.bytes.items c.upgrade_bytes.result (record { taken = e.bytes; end = e.end; within = omega (arith, long, e.within) })
-        (subst (λ (bytes : List ℕ). AnswersBytes IsUpgraded bytes c.upgrade_bytes.result) c.deref.ensures.value c.upgrade_bytes.ensures)
+    (subst (λ (bytes : List ℕ). AnswersBytes IsUpgraded bytes c.upgrade_bytes.result) c.deref.ensures.value c.upgrade_bytes.ensures)

@@ -56,8 +56,8 @@ store_unborn-requires-2-clause-ready c =
       field_unborn layout is m mine base here h n,
     )
 
-pub store_header-requires-clause-ready : goal.store_header-requires-clause-ready
-store_header-requires-clause-ready c =
+pub give_birth-requires-clause-ready : goal.give_birth-requires-clause-ready
+give_birth-requires-clause-ready c =
     let layout = c.args.layout in
     let is = c.requires.layout.0 in
     let m : ℕ = c.args.number in
@@ -88,7 +88,7 @@ swap_field-before-requires-clause-ready c =
     let n : ℕ = c.encode_name-name.result in
     let e2 = seen_name layout m base h n (seen c.load_fixed.new.seat) (seen c.store_unborn.new.seat) e1 c.store_unborn.ensures.2 in
     let e3 = seen_field layout m base h n (seen c.store_unborn.new.seat) (seen c.store_unborn-2.new.seat) e2 c.store_unborn-2.ensures.2 in
-    let e4 = seen_birth layout m base h n (seen c.store_unborn-2.new.seat) (seen c.store_header.new.seat) e3 c.store_header.ensures.2 in
+    let e4 = seen_birth layout m base h n (seen c.store_unborn-2.new.seat) (seen c.give_birth.new.seat) e3 c.give_birth.ensures.2 in
     let array = c.if-load_fixed-ne32771.false in
     subst (λ (v : Seen). Mutates (λ o p. CanSwap o p 1 m (2 * base) (shares m)) v) (sym e4) (
       after_birth layout m base h n,
@@ -109,8 +109,8 @@ load_field-after-requires-clause-ready c =
     let n : ℕ = c.encode_name-name.result in
     let e2 = seen_name layout m base h n (seen c.load_fixed.new.seat) (seen c.store_unborn.new.seat) e1 c.store_unborn.ensures.2 in
     let e3 = seen_field layout m base h n (seen c.store_unborn.new.seat) (seen c.store_unborn-2.new.seat) e2 c.store_unborn-2.ensures.2 in
-    let e4 = seen_birth layout m base h n (seen c.store_unborn-2.new.seat) (seen c.store_header.new.seat) e3 c.store_header.ensures.2 in
-    let e5 = seen_swap layout m base h n c.swap_field-before.result (seen c.store_header.new.seat) (seen c.swap_field-before.new.seat) e4
+    let e4 = seen_birth layout m base h n (seen c.store_unborn-2.new.seat) (seen c.give_birth.new.seat) e3 c.give_birth.ensures.2 in
+    let e5 = seen_swap layout m base h n c.swap_field-before.result (seen c.give_birth.new.seat) (seen c.swap_field-before.new.seat) e4
     c.swap_field-before.ensures.view.2 in
     let array = c.if-load_fixed-ne32771.false in
     subst (λ (v : Seen). Mutates (λ o p. CanLoad o p 1 m (reads m)) v) (sym e5) (
@@ -132,8 +132,8 @@ load_fixed-requires-2-clause-ready c =
     let n : ℕ = c.encode_name-name.result in
     let e2 = seen_name layout m base h n (seen c.load_fixed.new.seat) (seen c.store_unborn.new.seat) e1 c.store_unborn.ensures.2 in
     let e3 = seen_field layout m base h n (seen c.store_unborn.new.seat) (seen c.store_unborn-2.new.seat) e2 c.store_unborn-2.ensures.2 in
-    let e4 = seen_birth layout m base h n (seen c.store_unborn-2.new.seat) (seen c.store_header.new.seat) e3 c.store_header.ensures.2 in
-    let e5 = seen_swap layout m base h n c.swap_field-before.result (seen c.store_header.new.seat) (seen c.swap_field-before.new.seat) e4
+    let e4 = seen_birth layout m base h n (seen c.store_unborn-2.new.seat) (seen c.give_birth.new.seat) e3 c.give_birth.ensures.2 in
+    let e5 = seen_swap layout m base h n c.swap_field-before.result (seen c.give_birth.new.seat) (seen c.swap_field-before.new.seat) e4
     c.swap_field-before.ensures.view.2 in
     let x : ℕ = c.load_field-after.result in
     let e6 = seen_load layout m base h n c.swap_field-before.result x (seen c.swap_field-before.new.seat) (seen c.load_field-after.new.seat) e5
@@ -158,8 +158,8 @@ returns c =
     let n : ℕ = c.encode_name-name.result in
     let e2 = seen_name layout m base h n (seen c.load_fixed.new.seat) (seen c.store_unborn.new.seat) e1 c.store_unborn.ensures.2 in
     let e3 = seen_field layout m base h n (seen c.store_unborn.new.seat) (seen c.store_unborn-2.new.seat) e2 c.store_unborn-2.ensures.2 in
-    let e4 = seen_birth layout m base h n (seen c.store_unborn-2.new.seat) (seen c.store_header.new.seat) e3 c.store_header.ensures.2 in
-    let e5 = seen_swap layout m base h n c.swap_field-before.result (seen c.store_header.new.seat) (seen c.swap_field-before.new.seat) e4
+    let e4 = seen_birth layout m base h n (seen c.store_unborn-2.new.seat) (seen c.give_birth.new.seat) e3 c.give_birth.ensures.2 in
+    let e5 = seen_swap layout m base h n c.swap_field-before.result (seen c.give_birth.new.seat) (seen c.swap_field-before.new.seat) e4
     c.swap_field-before.ensures.view.2 in
     let x : ℕ = c.load_field-after.result in
     let e6 = seen_load layout m base h n c.swap_field-before.result x (seen c.swap_field-before.new.seat) (seen c.load_field-after.new.seat) e5

@@ -1,4 +1,4 @@
-use Rattle.nmgc_barrier_checker.proofs.{Vocabulary.◌<◌, Vocabulary.◌∙◌, Vocabulary.ℕ, Vocabulary.refl, Vocabulary.sym, Vocabulary.subst, Vocabulary.inl, Vocabulary.inr, Vocabulary.false≢true, Vocabulary.none_first, AccountLaws.some_own, AccountLaws.none_own, AccountLaws.forgotten_accounts, AccountLaws.forgotten_count, AccountLaws.forgotten_same, CycleLaws.seen_same, CycleLaws.with_accounts, cycle.Cycle.settle.Goals.in-Some, cycle.Cycle.settle.Goals.in-None}
+use Rattle.nmgc_barrier_checker.proofs.{Vocabulary.◌<◌, Vocabulary.◌∙◌, Vocabulary.ℕ, Vocabulary.refl, Vocabulary.sym, Vocabulary.subst, Vocabulary.inl, Vocabulary.inr, Vocabulary.false≢true, Vocabulary.none_first, AccountLaws.some_own, AccountLaws.none_own, AccountLaws.forgotten_accounts, AccountLaws.forgotten_count, AccountLaws.forgotten_same, CycleLaws.seen_same, CycleLaws.with_accounts, cycle.Cycle.reason_against_settle.Goals.in-Some, cycle.Cycle.reason_against_settle.Goals.in-None}
 use Rattle.nmgc_barrier_checker.proofs.cycle.Cycle.reason_against_settle.Goals as goal
 
 pub returns-then-not-has_mutator-clause-settle : goal.returns-then-not-has_mutator-clause-settle

@@ -1,4 +1,4 @@
-use Rattle.nmgc_barrier_checker.proofs.{Vocabulary.ℕ, Vocabulary.List, Vocabulary.subst, Vocabulary.take, Vocabulary.get_or, Vocabulary.Option, Vocabulary.Contains, Vocabulary.IfNone, Vocabulary.take_more, Vocabulary.Name, Vocabulary.IsInOrder, OrderedLaws.met_here, OrderedLaws.met_elsewhere, sorted_names.SortedNames.met.Goals.in-Some, sorted_names.SortedNames.met.Goals.in_default}
+use Rattle.nmgc_barrier_checker.proofs.{Vocabulary.ℕ, Vocabulary.List, Vocabulary.subst, Vocabulary.take, Vocabulary.get_or, Vocabulary.Option, Vocabulary.Contains, Vocabulary.IfNone, Vocabulary.take_more, Vocabulary.Name, Vocabulary.IsInOrder, OrderedLaws.met_here, OrderedLaws.met_elsewhere, sorted_names.SortedNames.which_are_in.Goals.in-Some, sorted_names.SortedNames.which_are_in.Goals.in_default}
 use Rattle.nmgc_barrier_checker.proofs.sorted_names.SortedNames.which_are_in.Goals as goal
 
 pub loop-other-preserved : goal.loop-other-preserved
