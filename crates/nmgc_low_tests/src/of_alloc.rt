@@ -121,31 +121,31 @@ fn a_cycle(rt: HostRuntime) -> Result<(), Fail> {
     Ok(())
 }
 
-// Each allocation fills a segment and each sweep frees one, so a search through all segments for each would take minutes, in
-// each of the cycles.
+// Each allocation fills a segment and each sweep frees one, so a search through all segments for each would take 300,000,000
+// steps, in each of the cycles.
 #[test]
 fn one_block_segments(rt: HostRuntime) -> Result<(), Fail> {
-    let layout = layout!(segments: 65_536, words: 16, nursery: 16, mutators: 1);
+    let layout = layout!(segments: 16_384, words: 16, nursery: 16, mutators: 1);
     assert!(rt; layout.words.is_power_of_two());
     let mut segments = Segments::new(rt.alloc(), layout)?;
-    for number in 0..65_536u32 {
+    for number in 0..16_384u32 {
         assert!(rt; place(&rt, &mut segments, 0, 12) == 32 + 16 * number);
     }
-    counts(&rt, &segments, 0, 65_536, 0, 65_536);
+    counts(&rt, &segments, 0, 16_384, 0, 16_384);
     for _ in 0..2 {
         begin(&rt, &mut segments);
-        counts(&rt, &segments, 0, 0, 65_536, 0);
-        for number in 0..65_536u32 {
+        counts(&rt, &segments, 0, 0, 16_384, 0);
+        for number in 0..16_384u32 {
             assert!(rt; segments.sweep_next(1) == Some(number));
             assert!(rt; place(&rt, &mut segments, 0, 12) == 32 + 16 * number);
         }
-        counts(&rt, &segments, 0, 65_536, 0, 65_536);
+        counts(&rt, &segments, 0, 16_384, 0, 16_384);
     }
     begin(&rt, &mut segments);
-    for number in 0..65_536u32 {
+    for number in 0..16_384u32 {
         assert!(rt; segments.sweep_next(1) == Some(number));
     }
-    counts(&rt, &segments, 65_536, 0, 0, 0);
+    counts(&rt, &segments, 16_384, 0, 0, 0);
     Ok(())
 }
 
