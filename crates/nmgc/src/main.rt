@@ -1,7 +1,6 @@
 //! The program `nmgc`: it hands its command line and standard streams to `nmgc_cli::program`.
 //!
-//! It decides nothing. One trusted assumption: the adapters describe command line, standard input and standard output
-//! correctly.
+//! It decides nothing. One trusted assumption: the adapters describe command line, standard input and output correctly.
 #![tactic(auto)]
 
 use nmgc_cli::{Arguments, program};

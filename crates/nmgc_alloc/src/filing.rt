@@ -1,12 +1,12 @@
 //! Counts of swept segments, for the tallies: how many became free, active of each class, and filled.
 //!
-//! Two threads sweep segments side by side. Neither may write the tallies, which belong to all. So each counts into a value
-//! of its own, and the tallies take up both afterwards. This takes the same time for any number of segments.
+//! Two threads sweep segments side by side. Neither may write the tallies, which belong to all segments. So each counts into
+//! a value of its own, and the tallies take up both afterwards. This takes the same time for any number of segments.
 //!
 //! Easy to get wrong: the tallies know the range in which segments entered a kind, but not which segments did. So nothing in
-//! that range is ruled out any more. If the range lies below all former segments of the kind, a tally's stretch is the
-//! numbers between the two. Otherwise it keeps the part of its stretch above the range. So a search may look at other
-//! segments than after single sweeps, and at some once more. It finds the same segment.
+//! that range is ruled out any more. If the range ends at or below the tally's `from`, the stretch then begins at the range's
+//! end and reaches at least up to the old `from`. Otherwise it keeps the part of its stretch above the range. So a search may
+//! look at other segments than after single sweeps, and at some once more. It finds the same segment.
 ghost use Rattle.std.specs.Prelude.{◌≡◌, ◌+◌, ◌<◌, ◌≤◌, length};
 ghost use Rattle.nmgc_limits.specs.Limits.{most_segments};
 ghost use Rattle.nmgc_alloc.specs.{declared.tables.TheConstants.CLASSES as classes, declared.tables.TheConstants.KINDS as kinds, declared.search.Category.Category as Kind, declared.search.Category.TheVariants.Sweeping as waiting, Numbered.is, Search.is_for, Search.tally_of, CycleSteps.state_of, Filing.IsOutcome, Filing.CountsNone, Filing.gained, Filing.AreFew, Filing.EntersMany, laws.Counts.one_if};
@@ -53,7 +53,7 @@ impl Filed {
     }
 }
 
-/// Adds the counts of two swept parts to the tallies. All segments of the parts lie from `from` on and below `end`.
+/// Adds the counts of two swept parts to the tallies of free and active segments. Both parts lie from `from` on, below `end`.
 pub fn take_up(tallies: &mut [Tally], lower: &Filed, upper: &Filed, from: u32, end: u32)
     requires kinds { length tallies.old ≡ kinds }
     requires range { (from ≤ end) × (end ≤ most_segments) }

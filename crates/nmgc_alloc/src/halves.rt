@@ -1,4 +1,4 @@
-//! Sweeping waiting segments in two halves.
+//! Sweeping segments that wait to be swept, in two halves.
 //!
 //! The mark bytes and the state of a segment belong to it alone, so two threads may sweep segments without order between
 //! them. The tallies belong to all segments. So each half counts the results of its sweeps into a value of its own, and the
@@ -17,7 +17,8 @@ use crate::filing::Filed;
 use nmgc_segment::{Segment, State};
 use std::thread::{Threads, join_mut};
 
-// Sweeps the segment if it waits, as the next of its half, and counts the result. Returns the half's number of sweeps so far.
+// Sweeps the segment if it waits, after a call of `before`, and counts the result in `filed`. Returns `count`, the number of
+// the half's earlier sweeps, plus 1 if it swept.
 fn sweep_waiting<F: Fn(u8, u32)>(
     before: &F,
     half: u8,
@@ -40,12 +41,12 @@ fn sweep_waiting<F: Fn(u8, u32)>(
         return count;
     }
     before(half, count);
-    let swept = cycle_steps::sweep(segment, epoch);
+    let swept = cycle_steps::sweep_and_file(segment, epoch);
     filed.note(swept, segment.class());
     count + 1
 }
 
-// Sweeps all waiting segments of a part in order, and counts the results.
+// Sweeps all waiting segments of a part in order, each after a call of `before`, and counts the results in `filed`.
 fn sweep_part<F: Fn(u8, u32)>(
     before: &F,
     half: u8,
@@ -66,8 +67,8 @@ fn sweep_part<F: Fn(u8, u32)>(
     }
 }
 
-// Sweeps two parts in two threads, and counts the results of each. The calling thread sweeps the lower part, which may have
-// one waiting segment more. If the upper part is empty, no thread starts.
+// Sweeps the waiting segments of two parts. An upper part that isn't empty is swept in a thread of its own, or after the
+// lower part if no thread can be started. Counts the results in `lower_filed` and `upper_filed`, which must be 0 before.
 fn sweep_both<R: Threads + Sync, F: Fn(u8, u32) + Sync>(
     rt: &R,
     before: &F,
@@ -115,7 +116,8 @@ fn waiting_count(segment: &Segment) -> u32
     }
 }
 
-// Returns the end of a range that begins at `from` and has exactly `count` waiting segments.
+// Returns a segment number. Exactly `count` of the segments from `from` on and below this number wait to be swept. Requires
+// that at least `count` segments from `from` on wait.
 fn end_of_waiting(segments: &[Segment], from: usize, count: u32) -> usize
     requires from { from ≤ length segments.now }
     requires enough { count ≤ sought_count Sweeping (drop from segments.now) }
@@ -133,7 +135,8 @@ fn end_of_waiting(segments: &[Segment], from: usize, count: u32) -> usize
     segments.len()
 }
 
-// Sweeps the first `count` waiting segments in two halves, and returns a number below which they all lie.
+// Sweeps the first `count` waiting segments in two halves, and counts the results in `lower_filed` and `upper_filed`. Returns
+// a number below which exactly these segments waited. Nothing changes from this number on.
 fn sweep_in_halves<R: Threads + Sync, F: Fn(u8, u32) + Sync>(
     rt: &R,
     before: &F,
@@ -169,10 +172,12 @@ fn sweep_in_halves<R: Threads + Sync, F: Fn(u8, u32) + Sync>(
     end
 }
 
-/// Sweeps the first `count` waiting segments in two halves, each in order and in its own thread. No segment below `from`
-/// waits. Returns a number: below it all waiting segments were swept, and from it on nothing changed. Each half adds its
-/// results to counts that are 0 at first. Before each sweep it calls `before`, with the half and the position in it. No
-/// clause says so: the condition on `before` says with which arguments it may be called.
+/// Sweeps the first `count` waiting segments in two halves, each in order. Requires that no segment below `from` waits, and
+/// that both counts are 0. The lower half counts its results in `lower_filed`. The upper half counts its results in
+/// `upper_filed`. Unless it is empty, it runs in a thread of its own, or after the lower half if no thread can be started.
+/// Returns a number below which exactly these segments waited; from it on nothing changed. Before each sweep, a half calls
+/// `before` with its number (0 or 1) and the number of its earlier sweeps. No clause promises these calls: the requirement
+/// `before` says which arguments are allowed.
 pub fn sweep_from<R: Threads + Sync, F: Fn(u8, u32) + Sync>(
     rt: &R,
     before: &F,

@@ -1,9 +1,8 @@
 //! The block of each name after each step of the allocation state; no name lies in two blocks.
 //!
-//! Each function here does nothing; its contract is the law, over the steps of the allocation state.
-//!
-//! The blocks that a sweep keeps are given by the mark bytes, as for `Segments::sweep_next`, or by a list of names, as for a
-//! cycle's census. If these agree, a sweep by marks is a sweep by names.
+//! Each function here does nothing; its contract is the law, over the steps of the allocation state. The blocks that a sweep
+//! keeps are given by the mark bytes, as for `Segments::sweep_next`, or by a list of names, as for a cycle's census. If these
+//! agree, a sweep by marks is a sweep by names.
 ghost use Rattle.std.specs.Prelude.{ℕ, ◌≡◌, ◌+◌, ◌⊎◌, ◌↔◌, List, Contains};
 ghost use Rattle.nmgc_world_spec.specs.declared.value.Name.{Name};
 ghost use Rattle.nmgc_object.specs.declared.layout.Layout.{Layout};
@@ -13,7 +12,7 @@ ghost use Rattle.nmgc_alloc.specs.AllocState.{AllocState, IsAllocState, IsIn, No
 use nmgc_segment::State;
 
 /// Proves that names keep their blocks, unless a sweep drops them. Placing a name puts it into its block and moves no other
-/// name. A sweep keeps the names in the marked blocks and in other segments. A cycle's beginning and retiring move no name.
+/// name. A sweep drops exactly the names in its segment's unmarked blocks. A cycle's beginning and retiring move no name.
 pub fn names_keep_their_blocks()
     ensures placing { (layout : Layout) (old new : AllocState) (mutator class : ℕ) (name : Name) → IsAllocState layout old →
         (p : PlacesName layout old new mutator class name) → (number block : ℕ) (other : Name) → LiesIn new number block other ↔
@@ -24,7 +23,8 @@ pub fn names_keep_their_blocks()
     ensures retired { (old : AllocState) (number block : ℕ) (name : Name) → LiesIn (all_retired old) number block name ↔ LiesIn old number block name }
 {}
 
-/// Proves that a name lies in at most one block, at the beginning and after each step, if placed names lay nowhere before.
+/// Proves that each name lies in at most one block while all segments are free, and after each step if it did before the
+/// step. If a name is placed, it must have lain in no block before.
 pub fn names_lie_once()
     ensures first { (count : ℕ) → LieOnce (all_empty count) }
     ensures placing { (layout : Layout) (old new : AllocState) (mutator class : ℕ) (name : Name) → PlacesName layout old new mutator class name →
@@ -35,9 +35,9 @@ pub fn names_lie_once()
     ensures retired { (old : AllocState) → LieOnce old → LieOnce (all_retired old) }
 {}
 
-/// Proves that a sweep by marks is a sweep by names, if the segment's marked blocks are the blocks of the names to be kept.
-/// Sweeps by names add up: one more may follow any number of sweeps, and each leaves one segment less to sweep. If the sweeps
-/// are equal in number to the segments to be swept, none is left.
+/// Proves that a sweep by marks is a sweep by names, if a block of the segment with a name is marked exactly if the name is
+/// to be kept. No sweep at all counts as 0 sweeps by names (`SweepsSome`), and one sweep more adds 1. After `count` sweeps,
+/// `count` fewer segments wait to be swept. After a sweep for each waiting segment, none waits.
 pub fn sweeps_are_by_names()
     ensures by_names { (old new : AllocState) (segment : Segment) (epoch swept : ℕ) (kept : List Name) →
         ((block : ℕ) (name : Name) → LiesIn old swept block name → IsMarked segment epoch block ↔ Contains kept name) →

@@ -1,13 +1,14 @@
 //! All segments, by number.
 //!
-//! Placing must take constant time except for the search within one segment, so no object needs a search through all
-//! segments. A table has the number of each mutator's current segment of each class. Another has a tally of each kind of
-//! segment that is searched for: free segments, segments to be swept, and active segments of a class. A tally has their
-//! number, and ranges without any. So the code doesn't search for a kind without segments, and each search continues the
-//! last. The counts take constant time, since each is updated when a segment changes its state.
+//! Placing must take constant time, except for two searches: within one segment, and for the next segment once the current
+//! one was filled. No object should need a search through all segments. A table has the number of each mutator's current
+//! segment of each class. Another has a tally of each kind of segment that is searched for: free segments, segments to be
+//! swept, and active segments of a class. A tally has the number of segments of the kind, and ranges without any. So the code
+//! doesn't search for a kind without segments, and each search continues the last. The counts take constant time, since each
+//! is updated when a segment changes its state.
 //!
 //! Easy to get wrong: the number in the table may be of a segment that has been filled or retired since, so the code reads
-//! its state. A missing current segment is noticed only because each new one is written to the table.
+//! its state. A current segment that isn't in the table is never found, so each new one is written there.
 ghost use Rattle.std.specs.Prelude.{ℕ, ◌≡◌, ◌≢◌, ◌↔◌, ◌+◌, ◌<◌, ◌≤◌, ◌/◌, ◌%◌, map, min, replicate, count_by, slice_set, IsTrue, IfOk, IfSome, IfNone};
 ghost use Rattle.nmgc_object.specs.Places.{IsLayout, IsSegmentSize, segment_place};
 ghost use Rattle.nmgc_segment.specs.{Marks.IsEpoch, Segment.free_segment, Segment.block_count};
@@ -56,7 +57,7 @@ impl Model for Segments {
 }
 
 // Returns the number of the segment that contains a word, and the word's offset from the segment's first word. `distance` is
-// its distance from the first word of all segments. A segment has `words` words, a power of two: no division is needed.
+// the word's distance from the first segment. A segment has `words` words, a power of two: no division is needed.
 fn split(distance: u32, words: u32) -> (u32, u32)
     requires { IsSegmentSize words }
     ensures number { result.0 ≡ distance / words }
@@ -97,7 +98,7 @@ impl Segments {
     ghost use Rattle.nmgc_alloc.specs.Segments.{all_free, IsMutator, IsClass, IsCurrent, HasRoom, HasNone, HasNoneIn, HasNoCurrent, Allocates, SweepsNext, IsBlockAt, IsSegments, IsOwn, IsLeast, IsOpen, CountsFilled, TakesBlock, IsChosen, SweepsSegment, MarksBlock, MarksIfBlock, IsToMark, as_current, marked_if};
     ghost use Rattle.nmgc_alloc.specs.Numbered.{HasNumber, block_place};
 
-    /// Makes all segments of a layout, each of them free.
+    /// Makes all segments of a layout, each of them free. No other call takes memory. Fails with `NoMemory` if there is none.
     pub fn new(alloc: Global, layout: Layout) -> Result<Self, NoMemory>
         requires { IsLayout layout }
         ensures value { IfOk result (λ segments. segments ≡ all_free layout) }
@@ -116,7 +117,7 @@ impl Segments {
         })
     }
 
-    /// Returns the layout. Of all calls, only `new` takes memory.
+    /// Returns the layout.
     pub fn layout(&self) -> Layout
         ensures layout { result ≡ self.now.layout }
         ensures sound { IsSegments self.now }
@@ -124,16 +125,15 @@ impl Segments {
         // Note [Lines that do nothing]
         //
         // Some lines do nothing when they run. A read of a field, as here, gives the prover the invariant of the value's
-        // type: that all segments are sound. In other methods it may be `let _limit = self.limit;`, and a caller writes
-        // `let _ = segments.layout();`. A call of a law, such as `a_stop_leads();` in `nmgc_cycle/src/stop.rt`, gives the
-        // prover the law. `let _ = command;` is for an argument that only clauses read. Before a call that changes
-        // something, `let _` only drops the answer: `let _ = self.queue.take_first();`.
+        // type: that all segments are sound. In other methods it may be `let _limit = self.limit;`, and a caller writes `let
+        // _ = segments.layout();`. A call of a law, such as `a_stop_leads();` in `nmgc_cycle/src/stop.rt`, gives the prover
+        // the law. `let _ = command;` is for an argument that only clauses read. Before a call that changes something, `let
+        // _` only drops the answer: `let _ = self.queue.take_first();`.
         let _ = &self.segments;
         self.layout
     }
 
-    /// Returns the number of segments filled by placing since the last cycle began. They are still filled, so the number is
-    /// at most the number of filled segments.
+    /// Returns the number of segments filled by placing since the last cycle began, at most the number of filled segments.
     pub fn fresh(&self) -> u32
         ensures { result ≡ self.now.fresh }
     {
@@ -201,14 +201,14 @@ impl Segments {
     }
 
     // Returns the least number of a segment of the kind, or `None` exactly if there is no such segment.
-    fn least(&self, category: Category) -> Option<u32>
+    fn least_of_kind(&self, category: Category) -> Option<u32>
         requires { IsKind category }
         ensures some { IfSome result (λ number. IsLeast category self.now number) }
         ensures none { IfNone result (HasNone category self.now) }
         ensures sound { IsSegments self.now }
     {
         let tally = self.tallies[category.place()];
-        let number = search::least(self.segments.as_slice(), tally, category);
+        let number = search::least_of_kind(self.segments.as_slice(), tally, category);
         if (number as usize) < self.segments.len() {
             Some(number)
         } else {
@@ -233,8 +233,8 @@ impl Segments {
         self.tallies[category.place()].leave(number, self.layout.segments);
     }
 
-    // Takes the first unused block of a current segment, and returns the block's number. If no block is left, `take_block`
-    // has filed the segment as filled, and it is counted here.
+    // Takes the first unused block of a current segment, and returns the block's number. If no block is left then,
+    // `take_block` of `cycle_steps` files the segment as filled, and this function counts it.
     fn take_block_in(&mut self, number: u32) -> u32
         requires exists { HasNumber self.old number }
         requires current { (mutator : ℕ) × ((nth self.old.segments number).state ≡ State.Current mutator) }
@@ -280,11 +280,11 @@ impl Segments {
             return number;
         }
         let active = Category::Active { class };
-        if let Some(number) = self.least(active) {
+        if let Some(number) = self.least_of_kind(active) {
             self.make_current(number, mutator, class, active);
             return number;
         }
-        match self.least(Category::Free) {
+        match self.least_of_kind(Category::Free) {
             Some(number) => {
                 self.make_current(number, mutator, class, Category::Free);
                 number
@@ -303,8 +303,8 @@ impl Segments {
     {
         let _ = &self.segments;
         self.current_of(mutator, class).is_some()
-            || self.least(Category::Active { class }).is_some()
-            || self.least(Category::Free).is_some()
+            || self.least_of_kind(Category::Active { class }).is_some()
+            || self.least_of_kind(Category::Free).is_some()
     }
 
     /// Places an object of the class for the mutator by Note [The placing rule], and returns its address. Constant time
@@ -322,8 +322,8 @@ impl Segments {
         self.place_of(number, block)
     }
 
-    /// Returns the number of the segment and of its block that begins at an address, or `None` exactly if no block of a
-    /// segment that isn't free begins there. A shift finds the segment, since its words are a power of two. Constant time.
+    /// Returns the segment's number and the block's number for the block that begins at an address, or `None` exactly if no
+    /// block begins there. A free segment has no blocks. Constant time: a shift finds the segment, without a division.
     pub fn block_at(&self, at: Address) -> Option<(u32, u32)>
         ensures some { IfSome result (λ p. IsBlockAt self.now p.0 p.1 at.0) }
         ensures none { IfNone result ((number block : ℕ) → IsBlockAt self.now number block at.0 → ⊥) }
@@ -332,8 +332,8 @@ impl Segments {
         self.block_in(number, offset)
     }
 
-    /// Marks the block that begins at the address if it is an unmarked block of the snapshot, and returns whether it marked
-    /// the block. Otherwise nothing changes. It is for tests: the marker calls `try_mark_at`. Constant time.
+    /// Marks the block that begins at the address if it is an unmarked block of the snapshot, and returns whether it did.
+    /// Otherwise nothing changes. Requires that a block begins there. For tests; the marker calls `try_mark_at`.
     pub fn mark_at(&mut self, at: Address, epoch: u8) -> bool
         requires epoch { IsEpoch epoch }
         requires begins { (number : ℕ) × (block : ℕ) × IsBlockAt self.old number block at.0 }
@@ -341,13 +341,13 @@ impl Segments {
         ensures sound { IsSegments self.new }
     {
         match self.block_at(at) {
-            Some((number, block)) => self.mark(number, block, epoch),
+            Some((number, block)) => self.try_mark(number, block, epoch),
             None => unreachable!(),
         }
     }
 
-    /// Marks the unmarked block of the snapshot that begins at the address, and returns whether there was one. Otherwise
-    /// nothing changes. Constant time.
+    /// Marks the block that begins at the address, if one begins there and is an unmarked block of the snapshot. Returns
+    /// whether it marked a block. Otherwise nothing changes. Constant time.
     pub fn try_mark_at(&mut self, at: Address, epoch: u8) -> bool
         requires { IsEpoch epoch }
         ensures marks { MarksIfBlock self.old self.new at.0 epoch result }
@@ -355,13 +355,13 @@ impl Segments {
     {
         let _ = &self.segments;
         match self.block_at(at) {
-            Some((number, block)) => self.mark(number, block, epoch),
+            Some((number, block)) => self.try_mark(number, block, epoch),
             None => false,
         }
     }
 
     /// Marks a block if it is an unmarked block of the snapshot, and returns whether it marked the block. Constant time.
-    pub fn mark(&mut self, number: u32, block: u32, epoch: u8) -> bool
+    pub fn try_mark(&mut self, number: u32, block: u32, epoch: u8) -> bool
         requires epoch { IsEpoch epoch }
         requires exists { HasNumber self.old number }
         requires block { block < block_count (nth self.old.segments number) }
@@ -373,10 +373,10 @@ impl Segments {
         ensures sound { IsSegments self.new }
     {
         let segment = &mut self.segments[number as usize];
-        cycle_steps::mark(segment, block, epoch)
+        cycle_steps::mark_if_unmarked(segment, block, epoch)
     }
 
-    // Returns the segment in which an address lies, and its offset in the segment, or `None` if no block can begin there.
+    // Returns the number of the segment in which an address lies, and the offset in it, or `None` if it lies in no segment.
     fn segment_at(&self, at: Address) -> Option<(u32, u32)>
         ensures some { IfSome result (λ p. HasNumber self.now p.0 × (p.1 < self.now.layout.words) × (at.0 ≡ segment_place self.now.layout p.0 + p.1)) }
         ensures none { IfNone result ((number block : ℕ) → IsBlockAt self.now number block at.0 → ⊥) }
@@ -390,7 +390,7 @@ impl Segments {
         Some((number, offset))
     }
 
-    // Returns a segment and its block at `offset`, or `None` exactly if the segment is free or no block begins there.
+    // Returns `number` and the segment's block at `offset`, or `None` exactly if it is free or no block begins at `offset`.
     fn block_in(&self, number: u32, offset: u32) -> Option<(u32, u32)>
         requires exists { HasNumber self.now number }
         requires within { offset < self.now.layout.words }
@@ -424,7 +424,8 @@ impl Segments {
         Address(self.layout.segment_base(number) + block * block_words(segment.class()))
     }
 
-    /// Begins a cycle: takes the snapshot of every segment that isn't free. Filled segments are then to be swept.
+    /// Begins a cycle: takes the snapshot of every segment that isn't free, and sets `fresh` to 0. Filled segments are then
+    /// to be swept. Requires that no segment is to be swept before.
     pub fn prepare(&mut self)
         requires { HasNoneIn State.Sweeping self.old }
         ensures value { self.new ≡ record self.old { segments = map prepared self.old.segments; fresh = 0 } }
@@ -436,7 +437,7 @@ impl Segments {
         self.filled = 0;
     }
 
-    /// Sets every mark to the epoch, in all segments that are neither free nor to be swept.
+    /// Sets each mark byte that isn't 0 to the epoch, in all segments that are neither free nor to be swept.
     pub fn carry(&mut self, epoch: u8)
         requires { IsEpoch epoch }
         ensures value { self.new ≡ record self.old { segments = map (carried_over epoch) self.old.segments } }
@@ -453,16 +454,16 @@ impl Segments {
         ensures some { IfSome result (λ number. SweepsNext self.old self.new epoch number) }
         ensures sound { IsSegments self.new }
     {
-        let number = self.least(Category::Sweeping)?;
-        self.sweep(number, epoch);
+        let number = self.least_of_kind(Category::Sweeping)?;
+        self.sweep_and_count(number, epoch);
         Some(number)
     }
 
-    /// Sweeps the first `quota` segments to be swept, by number, or all if there are fewer, and returns how many it swept.
-    /// The result is the same as after that number of calls of `sweep_next`. Takes no memory. It sweeps two halves in two
-    /// threads. If the number is odd, the lower half has one segment more. For a single segment, or if a thread can't be
-    /// started, the calling thread does the work. Before each sweep it calls `before`, with the half, 0 or 1, and the
-    /// position in it from 0. No clause says so: the condition on `before` says which arguments are allowed.
+    /// Sweeps the first `quota` waiting segments, by number, or all if there are fewer, and returns the number of sweeps. The
+    /// segments are then the same as after this number of calls of `sweep_next`. Takes no memory. It sweeps two halves in two
+    /// threads. If the number of sweeps is odd, the lower half has one more. For a single segment, or if no thread can be
+    /// started, the calling thread does the work. Before each sweep, a half calls `before` with its number (0 or 1) and the
+    /// number of its earlier sweeps. No clause promises these calls: the requirement `before` only bounds the arguments.
     pub fn sweep_many<R: Threads + Sync, F: Fn(u8, u32) + Sync>(
         &mut self,
         rt: &R,
@@ -485,7 +486,7 @@ impl Segments {
         count
     }
 
-    // Calls `before` and sweeps the first segment that is to be swept.
+    // Sweeps the first waiting segment, after a call of `before` with 0 and 0. Requires that a segment waits.
     fn sweep_one<F: Fn(u8, u32)>(&mut self, epoch: u8, before: &F)
         requires epoch { IsEpoch epoch }
         requires some { HasNoneIn State.Sweeping self.old → ⊥ }
@@ -499,7 +500,7 @@ impl Segments {
         };
     }
 
-    // Sweeps the first `count` waiting segments in two halves, and adds the results to the tallies.
+    // Sweeps the first `count` waiting segments in two halves, and updates the tallies and `filled` by the results.
     fn sweep_halves<R: Threads + Sync, F: Fn(u8, u32) + Sync>(
         &mut self,
         rt: &R,
@@ -539,8 +540,8 @@ impl Segments {
         self.filled += lower.filled + upper.filled;
     }
 
-    // Sweeps a segment, and updates the tallies by its new state.
-    fn sweep(&mut self, number: u32, epoch: u8)
+    // Sweeps segment `number`, the least that is to be swept, and updates the tallies and `filled` by its new state.
+    fn sweep_and_count(&mut self, number: u32, epoch: u8)
         requires epoch { IsEpoch epoch }
         requires least { IsLeast Category.Sweeping self.old number }
         ensures sweeps { SweepsSegment (nth self.old.segments number) (nth self.new.segments number) epoch }
@@ -549,7 +550,7 @@ impl Segments {
     {
         let segment = &mut self.segments[number as usize];
         let class = segment.class();
-        let swept = cycle_steps::sweep(segment, epoch);
+        let swept = cycle_steps::sweep_and_file(segment, epoch);
         self.tallies[Category::Sweeping.place()].leave(number, self.layout.segments);
         match swept {
             Swept::Free => self.tallies[Category::Free.place()].enter(number),
@@ -558,7 +559,7 @@ impl Segments {
         }
     }
 
-    /// Files every current and every active segment as filled, before a full cycle.
+    /// Files every current and every active segment as filled, for a full cycle that is to begin.
     pub fn retire_all(&mut self)
         ensures value { self.new ≡ record self.old { segments = map retired self.old.segments } }
         ensures sound { IsSegments self.new }

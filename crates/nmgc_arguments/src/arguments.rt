@@ -1,10 +1,9 @@
 //! The arguments of the command line, as they are passed on.
 //!
-//! All arguments after the program's name are passed on, in order. An argument that is no text, or is longer than any
-//! argument that the program knows, becomes the empty argument, and so a wrong one. Contracts can't know standard arguments,
-//! so a command line is a trait. A command line that gives its arguments shows that the same code passes each of them on.
-//! Easy to get wrong: an argument that can't be read as text keeps its position, or each argument after it would move to the
-//! position before.
+//! All arguments after the program's name are passed on, in order. An argument that isn't UTF-8 text, or is longer than any
+//! argument that the program knows, is passed on as the empty argument, which no program accepts. Contracts can't know
+//! standard arguments, so a command line is a trait: the same code also runs on arguments that contracts know. Easy to get
+//! wrong: an argument that can't be read keeps its position. If it were left out, each later argument would move up.
 ghost use Rattle.std.specs.Prelude.{◌≡◌, ℕ, List, [], Option, None, map, string_bytes, IfOk, if◌then◌else◌};
 ghost use Rattle.std.specs.{Io.WritesAtMost, Option.option_map, Str.is_utf8};
 ghost use Rattle.nmgc_arguments.specs.Arguments.{Fills, ArePassed, IsPassedAt};
@@ -18,11 +17,11 @@ const LONGEST: usize = 256;
 
 /// The origin of a command line's arguments.
 pub trait CommandLine {
-    /// The arguments, from the program's name on, if the command line gives them.
+    /// The arguments from the program's name on, or `None` if contracts can't know them.
     ghost arguments: { Self → Option (List (List ℕ)) };
 
-    /// Copies the argument at position `place`, from 0, to the front of `buf`, and returns its length. `NotPresent` means
-    /// that there is none, and `TooLong` that it is longer than `buf`. Takes no memory.
+    /// Copies the argument at position `place` to the front of `buf`, and returns its length. Position 0 has the program's
+    /// name. `NotPresent` means that no argument is there, and `TooLong` that it is longer than `buf`. Takes no memory.
     fn argument(&self, place: usize, buf: &mut [u8]) -> Result<usize, FillError>
         ensures bound { WritesAtMost result buf.new }
         ensures argument { Fills (arguments self.now) place buf.new result };
@@ -50,7 +49,7 @@ impl<'a, R: Env> CommandLine for Arguments<'a, R> {
 }
 
 /// Returns all arguments after the program's name, in order. An argument that isn't UTF-8 text, or has more than 256 bytes,
-/// becomes the empty argument. `NoMemory` means no memory for them.
+/// becomes the empty argument. `NoMemory` means that there was no memory for them.
 pub fn arguments_of<L: CommandLine>(alloc: Global, line: &L) -> Result<Vec<String>, NoMemory>
     ensures { IfOk result (λ arguments. ArePassed (L.arguments line.now) (map string_bytes arguments.items)) }
 {

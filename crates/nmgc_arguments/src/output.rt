@@ -1,14 +1,14 @@
 //! The text of a program's output, and its writing to a sink.
 //!
 //! An output is complete before its sink is used, so a sink that fails changes only the status. Easy to get wrong: the text
-//! for lack of memory may take none. So a text that is always the same is kept apart from a text that was made.
+//! that reports a lack of memory may take none. So a constant text is kept apart from a text that was made.
 ghost use Rattle.std.specs.Prelude.{◌≡◌};
 ghost use Rattle.nmgc_io.specs.Counts.{Rose};
 ghost use Rattle.nmgc_arguments.specs.Output.{IsWritten, text_bytes};
 
 use nmgc_io::{Sink, write_all};
 
-/// A text that is always the same, or that was made. Only the second takes memory.
+/// A text that is constant, or that was made. Only a made text takes memory.
 #[derive(Drop)]
 pub enum Text {
     Fixed(&'static [u8]),
@@ -16,7 +16,7 @@ pub enum Text {
 }
 
 impl Text {
-    /// Returns the bytes. Takes no memory.
+    /// Returns the bytes of the text. Takes no memory.
     pub fn bytes(&self) -> &[u8]
         ensures { result.now ≡ text_bytes self.now }
     {
@@ -27,8 +27,8 @@ impl Text {
     }
 }
 
-/// Writes a text to the sink, and returns `status`. If the sink fails, it has a front of the text, and `fault` is returned
-/// instead. Takes no memory.
+/// Writes a text to the sink and returns `status`. If the sink fails, a prefix of the text was written, and the call returns
+/// `fault`. Takes no memory.
 pub fn write_output<K: Sink, S: Copy>(sink: &mut K, status: S, fault: S, text: &[u8]) -> S
     ensures { IsWritten fault (K.taken sink.old) (K.taken sink.new) (Rose (K.faults sink.old) (K.faults sink.new)) status text.now result }
 {

@@ -1,10 +1,8 @@
-//! The debts of each mutator.
-//!
-//! A mutator has a queue of its debts, in the order in which they came, and the set of the names that its commands made due
-//! so far. So a name is in a queue at most once, however often it comes due, and all queues together take memory for each
-//! name and mutator. A debt counts as long as its name wasn't pushed. Paid debts leave a queue from the front
-//! (`forget_paid`), so a mutator settles in amortised constant time, whatever other mutators owe. The reason against an end
-//! is the debt of the least line, found by a search of all queues.
+//! The debts of each mutator. A debt is a name that a mutator's command made due, with the command's line. It is unpaid until
+//! the name is pushed. Each mutator has a queue of its debts, in the order in which they came, and the set of the names that
+//! came due by it so far. So a name enters a queue at most once, and all queues together take memory for each name and
+//! mutator. Paid debts leave a queue from the front (`forget_paid`), so a mutator settles in amortised constant time,
+//! whatever other mutators owe. The reason against an end is the unpaid debt of the least line in all queues.
 //!
 //! Easy to get wrong: two mutators may owe the same name, if commands of both made it due.
 ghost use Rattle.std.specs.Prelude.{◌≡◌, ◌⊎◌, ◌<◌, ◌≤◌, ◌∷◌, ◌++◌, List, [], false, length, replicate, slice_get, IfOk, OnOk, OnErr, All, Contains, Some, None};
@@ -37,9 +35,9 @@ impl Accounts {
         Ok(Accounts { debts, names })
     }
 
-    /// Adds debts for names that came due by a command of the mutator at a line. Leaves out names that can't be due, were
-    /// pushed, or are owed by the mutator already. Paid debts leave the front of the mutator's queue. After `NoMemory` some
-    /// debts may have been added. Takes amortised constant time for each name.
+    /// Adds a debt of the mutator and the line for each of `names`, except names that can't be due (`is_owable`), were pushed
+    /// (`marks`), or came due by this mutator before. Requires that the mutator exists. Paid debts at the front of its queue
+    /// are removed first. After `NoMemory` some debts may be added. Takes amortised constant time for each name.
     pub(crate) fn owe(
         &mut self,
         snapshot: &World,
@@ -85,7 +83,7 @@ impl Accounts {
         Ok(())
     }
 
-    // Removes paid debts from the front of a mutator's queue.
+    // Removes paid debts from the front of a mutator's queue, until an unpaid debt is first or the queue is empty.
     fn forget(&mut self, marks: &Marks, mutator: u8)
         requires { mutator < length self.old.debts }
         ensures { IsForgotten marks.now mutator self.old self.new }
@@ -93,7 +91,7 @@ impl Accounts {
         forget_paid(marks, &mut self.debts.items_mut()[mutator as usize]);
     }
 
-    /// Returns the first unpaid debt of a mutator, if any, and removes the debts before it. Takes amortised constant time.
+    /// Returns the first unpaid debt of a mutator, if any, and removes all debts before it, or all debts if none is unpaid.
     pub(crate) fn first_unpaid(&mut self, marks: &Marks, mutator: u8) -> Option<Debt>
         requires { mutator < length self.old.debts }
         ensures forgotten { IsForgotten marks.now mutator self.old self.new }
@@ -103,8 +101,8 @@ impl Accounts {
         self.debts.items()[mutator as usize].first()
     }
 
-    /// Whether the last debt of some mutator has this line. Right after the line's command, this means that the command made
-    /// a name due that its mutator didn't owe before. Takes no memory, and time for each mutator.
+    /// Whether the last debt in some mutator's queue has this line. Right after the line's command, this means that the
+    /// command made a name due that wasn't pushed and hadn't come due by its mutator before. Takes time for each mutator.
     pub(crate) fn has_debt_of_line(&self, line: usize) -> bool {
         for queue in self.debts.items() {
             if let Some(debt) = queue.items().last() {
@@ -116,7 +114,7 @@ impl Accounts {
         false
     }
 
-    /// Returns the unpaid debt of the least line, if there is any. Takes time for each debt in the queues.
+    /// Returns an unpaid debt of the least line, or `None` if no debt is unpaid. Takes time for each debt in the queues.
     pub(crate) fn least_unpaid(&self, marks: &Marks) -> Option<Debt>
         ensures { IsLeastIn (unpaid marks.now (all_debts self.now.debts)) result }
     {
@@ -135,7 +133,7 @@ fn empty_queues(alloc: Global, mutators: u8) -> Result<List<Queue<Debt>>, NoMemo
     Ok(queues)
 }
 
-// Makes an empty set for each mutator.
+// Makes, for each mutator, an empty set with a position for each name of the snapshot.
 fn empty_sets(snapshot: &World) -> Result<List<Marks>, NoMemory>
     ensures count { IfOk result (λ sets. length sets ≡ length snapshot.now.mutators) }
     ensures places { IfOk result (λ sets. All (HasPlaces snapshot.now) sets) }
@@ -143,12 +141,12 @@ fn empty_sets(snapshot: &World) -> Result<List<Marks>, NoMemory>
 {
     let mut sets = List::new(snapshot.alloc());
     for _ in 0..snapshot.mutators() {
-        sets.push(snapshot.no_names()?)?;
+        sets.push(snapshot.empty_set()?)?;
     }
     Ok(sets)
 }
 
-// Removes paid debts from the front of a queue.
+// Removes paid debts from the front of a queue, until an unpaid debt is first or the queue is empty.
 fn forget_paid(marks: &Marks, debts: &mut Queue<Debt>)
     ensures same { unpaid marks.now debts.new ≡ unpaid marks.now debts.old }
     ensures fewer { (d : DebtAt) → Contains debts.new d → Contains debts.old d }
@@ -162,7 +160,7 @@ fn forget_paid(marks: &Marks, debts: &mut Queue<Debt>)
     }
 }
 
-// Returns the unpaid debt of the least line in all queues, if there is any.
+// Returns an unpaid debt of the least line in all queues, or `None` if no debt is unpaid.
 fn least_among(marks: &Marks, queues: &[Queue<Debt>]) -> Option<Debt>
     ensures { IsLeastIn (unpaid marks.now (all_debts queues.now)) result }
 {
@@ -173,7 +171,7 @@ fn least_among(marks: &Marks, queues: &[Queue<Debt>]) -> Option<Debt>
     least
 }
 
-// Returns the debt of the least line among `so_far` and the unpaid debts of a queue, if there is any.
+// Returns a debt of the least line among `so_far` and the unpaid debts of `debts`, or `None` if there is no such debt.
 fn least_of(marks: &Marks, debts: &[Debt], so_far: Option<Debt>) -> Option<Debt>
     ensures { (before : List DebtAt) → IsLeastIn before so_far → IsLeastIn (before ++ unpaid marks.now debts.now) result }
 {
@@ -184,7 +182,7 @@ fn least_of(marks: &Marks, debts: &[Debt], so_far: Option<Debt>) -> Option<Debt>
     least
 }
 
-// Returns the debt of the lesser line of `so_far` and a further debt, which counts only if it is unpaid.
+// Returns `so_far` if `debt` is paid. Otherwise returns the debt of the lesser line, which is `debt` if there is no `so_far`.
 fn lesser_unpaid(marks: &Marks, so_far: Option<Debt>, debt: Debt) -> Option<Debt>
     ensures { (before : List DebtAt) → IsLeastIn before so_far → IsLeastIn (before ++ unpaid marks.now (debt ∷ [])) result }
 {
@@ -194,7 +192,7 @@ fn lesser_unpaid(marks: &Marks, so_far: Option<Debt>, debt: Debt) -> Option<Debt
     Some(earlier_debt(so_far, debt))
 }
 
-// Returns the debt of the lesser line: the first debt if both lines are the same, and the second if there is no first.
+// Returns the debt of the lesser line: `first` if the lines are the same, and `second` if there is no `first`.
 fn earlier_debt(first: Option<Debt>, second: Debt) -> Debt
     ensures some { (d : DebtAt) → first ≡ Some d → ((result ≡ d) × (d.line ≤ second.line)) ⊎ ((result ≡ second) × (second.line ≤ d.line)) }
     ensures none { first ≡ None → result ≡ second }

@@ -1,12 +1,12 @@
-//! The end of a cycle.
-//!
-//! Without debts, the snapshot and the opened, pushed and finalised names decide the end. The roots and the names opened by
-//! commands or pushed are live, with all that is reachable from them. Each weak pointer whose key isn't live dies.
+//! The end of a cycle. A cycle can end if no debt is left and no pushed name is untaken: if takes are reported, each pushed
+//! name except g was taken. The snapshot and the opened, pushed and finalised names decide the end. The roots and the names
+//! opened by commands or pushed are live, with all that is reachable from them. Without reported deaths, each weak pointer of
+//! the snapshot dies that is alive, wasn't finalised, and has a key that isn't live.
 //!
 //! Easy to get wrong: a name floats if only pushes keep it. Floating names are kept, but reported deaths are judged by the
-//! names that the commands keep. A weak pointer may live on although the commands don't keep its key: the key floats, or the
-//! weak pointer isn't reported. While it lives, its finaliser is still to run even if no mutator holds it, and a mutator that
-//! holds it can still read its value. So its key counts for the names that may be freed and the weak pointers that may die.
+//! names that the commands keep. A weak pointer may live on although the commands don't keep its key, if the key floats or
+//! the death isn't reported. Its finaliser is still to run, and a mutator that holds the weak pointer can still read its
+//! value. So the names that its key keeps may not be freed, and a weak pointer whose key is such a name isn't dead.
 ghost use Rattle.std.specs.Prelude.{◌≡◌, ◌++◌, [], None, IfOk, All, filter};
 ghost use Rattle.nmgc_world_spec.specs.Reach.{IsInOrder, IsAliveWeak, closed};
 ghost use Rattle.nmgc_barrier_checker.specs.{Cycles.is_outside, Cycles.keys_then, Watching.AreSerials};
@@ -26,8 +26,8 @@ impl Cycle {
     ghost use Rattle.nmgc_barrier_laws.specs.Cycle.{MarksName as HasToMark, Needs, IsAllTaken};
     ghost use Rattle.nmgc_barrier_checker.specs.{Cycles.IsOpenedWith, Watching.IsEnding, Watching.IsEndingWith, Watching.IsAgainstIf, Watching.IsDeadIf, Watching.IsLeft, Watching.IsResultWith};
 
-    /// Returns the result of a close. If the cycle can't end, returns the reason: the debt of the least line, or an untaken
-    /// name. Takes time and memory for each object, field and debt, however weak pointers revive one another.
+    /// Returns the result of a close without reported deaths, or a reason why the cycle can't end. The reason is an unpaid
+    /// debt of the least line, or else an untaken pushed name. Takes time and memory for each object, field and debt.
     pub fn result_or_why(&self) -> Result<Result<CycleResult, Why>, NoMemory>
         ensures { IfOk result (IsEnding self.now) }
     {
@@ -37,8 +37,8 @@ impl Cycle {
         }
     }
 
-    /// Returns the result of a close at which exactly these weak pointers die, in order of names, or the reason against such
-    /// a close. Each has to be dead: neither the commands nor the weak pointers that live on keep its key.
+    /// Returns the result of a close at which exactly the weak pointers `named` die, or else a reason against this close. The
+    /// reason is against any end of the cycle, or is a weak pointer of `named` that isn't dead (`Why::NotDead`).
     pub fn result_or_why_with(&self, named: &[Name]) -> Result<Result<CycleResult, Why>, NoMemory>
         ensures { IfOk result (IsEndingWith self.now named.now) }
     {
@@ -48,7 +48,7 @@ impl Cycle {
         }
     }
 
-    // Returns the reason, if any, why the cycle can't end at all: the debt of the least line, or a name that wasn't taken.
+    // Returns a reason why the cycle can't end, if any: an unpaid debt of the least line, or else an untaken pushed name.
     fn reason_against_end(&self) -> Option<Why>
         ensures { IsAgainstIf self.now result }
     {
@@ -61,7 +61,8 @@ impl Cycle {
         }
     }
 
-    // Returns the result of a close without debts at which these weak pointers die, or the reason why one of them isn't dead.
+    // Returns the result of a close at which exactly these weak pointers die, or one of them that isn't dead, as a reason.
+    // Requires that no debt and no untaken name is left.
     fn result_if_dead(&self, named: &[Name]) -> Result<Result<CycleResult, Why>, NoMemory>
         requires none { self.now.debts ≡ [] }
         requires taken { IsAllTaken self.now }
@@ -85,7 +86,7 @@ impl Cycle {
         Ok(other)
     }
 
-    // Returns the result of a close without debts, at which all dead weak pointers die.
+    // Returns the result of a close at which all dead weak pointers die. Requires that no debt and no untaken name is left.
     fn close_result(&self) -> Result<CycleResult, NoMemory>
         requires none { self.now.debts ≡ [] }
         requires taken { IsAllTaken self.now }
@@ -97,7 +98,8 @@ impl Cycle {
         Ok(left)
     }
 
-    // Returns the result of a close without debts at which exactly these weak pointers die.
+    // Returns the result of a close at which exactly these weak pointers die. Requires that they are dead if exactly they
+    // die, and that no debt and no untaken name is left.
     fn close_result_with(&self, named: &[Name]) -> Result<CycleResult, NoMemory>
         requires none { self.now.debts ≡ [] }
         requires taken { IsAllTaken self.now }
@@ -111,7 +113,8 @@ impl Cycle {
         Ok(left)
     }
 
-    // Returns the weak pointers that die, in order: neither roots nor opened or pushed names keep their keys live.
+    // Returns, in order, the weak pointers that die at a close without reported deaths. Each was alive in the snapshot, isn't
+    // finalised, and has a key that isn't live from roots, opened names and pushed names.
     fn dying_weaks(&self) -> Result<List<Name>, NoMemory>
         ensures { IfOk result (Lists (IsDead self.now.snapshot (self.now.opened ++ self.now.remembered) self.now.finalised)) }
     {
@@ -126,7 +129,7 @@ impl Cycle {
         Ok(dead)
     }
 
-    // Makes the result of a close at which these weak pointers die, and after which the heap is this world.
+    // Makes the result of a close at which these weak pointers die, with `world` as the heap after it.
     fn make_result(&self, world: World, dead: &[Name]) -> Result<CycleResult, NoMemory>
         ensures world { IfOk result (λ left. left.world ≡ world) }
         ensures kept { IfOk result (λ left. Lists (HasToMark self.now) left.kept) }
@@ -140,7 +143,7 @@ impl Cycle {
         )?;
         let kept = self.snapshot.kept(all.as_slice(), self.finalised.items())?;
         let needed = self.needed_names(dead)?;
-        let old = serials(&self.snapshot)?;
+        let old = name_counts(&self.snapshot)?;
         Ok(CycleResult {
             world,
             kept: SortedNames::new(kept),
@@ -161,7 +164,7 @@ impl Cycle {
         Ok(needed)
     }
 
-    // Returns the names that the commands opened, followed by the keys of the weak pointers that live on if these die.
+    // Returns the opened names, followed by the targets of the keys of the weak pointers that live on if exactly these die.
     fn opened_and_keys(&self, dead: &[Name]) -> Result<Vec<Name>, NoMemory>
         ensures { IfOk result (λ names. IsOpenedWith self.now dead.now names.items) }
     {
@@ -169,7 +172,7 @@ impl Cycle {
         let dying = self.snapshot.set_of(dead)?;
         let ended = self.snapshot.set_of(self.finalised.items())?;
         let living = weaks_outside(self.world.alloc(), weaks.items(), &dying, &ended)?;
-        let keys = keys_then(&self.snapshot, living.items())?;
+        let keys = keys_of_weaks(&self.snapshot, living.items())?;
         let names = join_names(
             self.world.alloc(),
             self.opened.names.items(),
@@ -179,7 +182,7 @@ impl Cycle {
     }
 }
 
-// Returns those weak pointers that are in neither set.
+// Returns the weak pointers of `weaks` that are neither in `dying` nor in `ended`.
 fn weaks_outside(
     alloc: Global,
     weaks: &[Name],
@@ -204,8 +207,8 @@ fn is_outside(dying: &Marks, ended: &Marks, weak: Name) -> bool
     !dying.contains(weak) && !ended.contains(weak)
 }
 
-// Returns the targets of the keys of those weak pointers that are alive in a world.
-fn keys_then(world: &World, weaks: &[Name]) -> Result<Vec<Name>, NoMemory>
+// Returns the targets of keys: for each weak pointer of `weaks` that is alive in the world, its key, if that is a reference.
+fn keys_of_weaks(world: &World, weaks: &[Name]) -> Result<Vec<Name>, NoMemory>
     ensures { IfOk result (λ keys. keys.items ≡ keys_then world.now weaks.now) }
 {
     let mut keys = Vec::new(world.alloc());
@@ -228,8 +231,8 @@ fn join_names(alloc: Global, left: &[Name], right: &[Name]) -> Result<Vec<Name>,
     Ok(names)
 }
 
-// Returns the number of names of each mutator.
-fn serials(world: &World) -> Result<List<u32>, NoMemory>
+// Returns, for each mutator of a world, the number of its names.
+fn name_counts(world: &World) -> Result<List<u32>, NoMemory>
     ensures { IfOk result (AreSerials world.now) }
 {
     let mut serials = List::new(world.alloc());
@@ -239,7 +242,7 @@ fn serials(world: &World) -> Result<List<u32>, NoMemory>
     Ok(serials)
 }
 
-// Returns a copy of the world in which these weak pointers are dead.
+// Returns a copy of the world in which these weak pointers are dead. They have to be alive in the world, and in order.
 fn copy_and_close(world: &World, dead: &[Name]) -> Result<World, NoMemory>
     requires ordered { IsInOrder dead.now }
     requires alive { All (IsAliveWeak world.now) dead.now }

@@ -1,10 +1,7 @@
-//! A cycle that is watched without a marker.
-//!
-//! The cycle has the world as it is, and the snapshot. Of the names of the snapshot it has the pushed names, the names that
-//! the commands opened, and the names that the marker took, if that is reported. Each of these is a list that has each name
-//! once, with a set for a lookup in constant time (`name_set`). Names that came due wait in a queue for each mutator
-//! (`accounts`). A push adds a name to the pushed names, so it takes amortised constant time; a debt counts until its name is
-//! pushed. So a cycle takes memory for each name and mutator, however long it goes on.
+//! A cycle that is watched without a marker. A cycle has the world as it is, the snapshot, and three sets of names of the
+//! snapshot, each with a list (`name_set`). These are the pushed names, the names that commands opened, and, if takes are
+//! reported, the names that the marker took. Names that came due wait in a queue for each mutator (`accounts`), and a debt
+//! counts until its name is pushed. A cycle takes memory for each name and mutator, however long it is.
 //!
 //! Easy to get wrong: a name outside the snapshot has no position in a set. It can't be due; a push of it changes nothing.
 ghost use Rattle.std.specs.Prelude.{◌≡◌, ◌↔◌, ◌<◌, ◌++◌, length, IfOk, OnOk, IsSome, IsTrue};
@@ -12,7 +9,7 @@ ghost use Rattle.nmgc_world_spec.specs.World.{node_of};
 ghost use Rattle.nmgc_barrier_checker.specs.{Dues.targets, Cycles.IsUntakenIn, Cycles.is_untaken};
 
 use crate::accounts::Accounts;
-use crate::due::{Field, common_fields, is_owable, kept_then, missing_fields};
+use crate::due::{Field, common_fields, is_owable, kept_by_weaks, missing_fields};
 use crate::event::Why;
 use crate::name_set::NameSet;
 use crate::rows::is_done;
@@ -53,7 +50,7 @@ impl Cycle {
     ghost use Rattle.nmgc_barrier_laws.specs.Cycle.{watching, IsPushed};
     ghost use Rattle.nmgc_barrier_checker.specs.Cycles.{IsTaken, IsCommand, IsActing, IsPush, IsSettle, IsTake, IsLeastDebt, IsUntakenIf};
 
-    /// Begins a cycle: the world is the snapshot. Takes time and memory for each object, and for each name and mutator.
+    /// Begins a cycle with this world as its snapshot. Takes time and memory for each object, and for each name and mutator.
     pub fn new(world: &World) -> Result<Self, NoMemory>
         ensures { IfOk result (λ cycle. cycle ≡ watching world.now) }
     {
@@ -84,22 +81,22 @@ impl Cycle {
         &self.world
     }
 
-    /// Returns how often commands made a name due so far. A name counts even if it was pushed before, and twice if a
-    /// `finalise` opens it: as opened and as kept. Returns at most `u64::MAX`. Takes no memory and constant time.
+    /// Returns how often commands made a name due so far, at most `u64::MAX`. A name counts even if it was pushed before. A
+    /// name that a `finalise` opens counts twice if the weak pointer was alive in the snapshot. Takes constant time.
     pub fn dues(&self) -> u64 {
         self.dues
     }
 
-    /// Whether the command just done at this line made a name due that its mutator didn't owe before in the cycle. If so, a
-    /// reason may have to name the line. Takes no memory, and time for each mutator.
-    pub fn is_owed_since(&self, line: usize) -> bool {
+    /// Whether the command just done at this line made a name due that wasn't pushed and hadn't come due by its mutator
+    /// before in the cycle. If so, a reason may report the line. Takes no memory, and time for each mutator.
+    pub fn has_new_debt_of_line(&self, line: usize) -> bool {
         self.accounts.has_debt_of_line(line)
     }
 
-    /// Does a mutator's command if the heap gives it this answer, or else returns why not and changes nothing. Names that the
-    /// command makes due are due since `line`, unless they were pushed or are owed by the mutator already. After `NoMemory`
-    /// the cycle may be in any state. Takes amortised constant time for each operand, and each field made or perhaps removed.
-    pub fn command(
+    /// Does a mutator's command if the heap can take it and gives this answer. Otherwise returns why not, and changes
+    /// nothing. Names that come due are due since `line`, unless they were pushed or the mutator owes them already. After
+    /// `NoMemory` any state is possible. Takes amortised constant time for each operand, and each field made or lost.
+    pub fn do_command(
         &mut self,
         line: usize,
         mutator: u8,
@@ -119,7 +116,7 @@ impl Cycle {
         Ok(None)
     }
 
-    /// Does a mutator's command at a line if its answer means that it is done, or else returns why not and changes nothing.
+    /// Does a mutator's command if the heap takes it with an answer that means done, or returns why not and changes nothing.
     pub fn act(
         &mut self,
         line: usize,
@@ -139,7 +136,9 @@ impl Cycle {
         Ok(None)
     }
 
-    // Does a command that the world can take, and adds the names that it opens, finalises and makes due.
+    // Does a mutator's command, whatever the heap answers. Requires that the world can take it. Adds the names of the
+    // snapshot that it opens, and the weak pointers that it finalises. Afterwards each name that came due was pushed, or is a
+    // debt of this mutator. A new debt gets the line `line`.
     fn give(&mut self, line: usize, mutator: u8, command: &Command) -> Result<(), NoMemory>
         requires { CanApply self.old.world mutator command.now }
         ensures { OnOk result (IsTaken line mutator command.now self.old self.new) }
@@ -147,7 +146,7 @@ impl Cycle {
         let fields = common_fields(&self.snapshot, &self.world, mutator, command)?;
         let opens = opened_by(&self.world, mutator, command)?;
         let ends = finalised_by(&self.world, mutator, command)?;
-        let kept = kept_then(&self.snapshot, ends.as_slice())?;
+        let kept = kept_by_weaks(&self.snapshot, ends.as_slice())?;
         self.opened.extend(&self.snapshot, opens.as_slice())?;
         self.finalised.extend(ends.as_slice())?;
         self.world.apply(mutator, command)?;
@@ -170,7 +169,8 @@ impl Cycle {
         Ok(())
     }
 
-    /// Adds a pushed name. Refuses a name that the heap doesn't have, and changes nothing. Takes amortised constant time.
+    /// Adds a name to the pushed names if the snapshot has it. If only the heap has it, nothing changes. Refuses a name that
+    /// the heap doesn't have, and changes nothing. Takes amortised constant time.
     pub fn push(&mut self, name: Name) -> Result<Option<Why>, NoMemory>
         ensures push { IfOk result (λ why. IsPush name self.old why self.new) }
     {
@@ -181,7 +181,7 @@ impl Cycle {
         Ok(None)
     }
 
-    // Adds a name of the heap to the pushed names.
+    // Adds a name to the pushed names if the snapshot has it. Requires that the heap has it.
     fn remember(&mut self, name: Name) -> Result<(), NoMemory>
         requires { IsSome (node_of self.old.world name) }
         ensures { OnOk result (IsPushed self.old name self.new) }
@@ -190,8 +190,8 @@ impl Cycle {
         Ok(())
     }
 
-    /// Returns the reason why a mutator hasn't settled, or `None` if it has. The reason is a debt of its commands that wasn't
-    /// pushed, or that there is no such mutator. Changes nothing. Takes amortised constant time, whatever other mutators owe.
+    /// Returns the reason why a mutator hasn't settled, or `None` if it has. The reason is an unpaid debt of its commands, or
+    /// that there is no such mutator. Changes nothing. Takes amortised constant time, whatever other mutators owe.
     pub fn reason_against_settle(&mut self, mutator: u8) -> Option<Why>
         ensures settle { IsSettle mutator self.old result }
         ensures same { self.new ≡ self.old }
@@ -216,14 +216,15 @@ impl Cycle {
         Ok(None)
     }
 
-    /// Returns the debt of the least line, or `None` if there are no debts. Takes time for each debt.
+    /// Returns an unpaid debt of the least line, or `None` if there are no unpaid debts. Takes time for each debt.
     pub fn first_debt(&self) -> Option<Debt>
         ensures { IsLeastDebt self.now result }
     {
         self.accounts.least_unpaid(&self.remembered.set)
     }
 
-    /// Returns the first pushed name except g that no take reports, if takes are reported. Takes time for each pushed name.
+    /// Returns the first pushed name, except g, that isn't among the taken names. Returns `None` if there is no such name, or
+    /// if no take was reported in the cycle. Takes time for each pushed name.
     pub fn first_untaken(&self) -> Option<Name>
         ensures { IsUntakenIf self.now result }
     {
@@ -234,7 +235,7 @@ impl Cycle {
     }
 }
 
-// Returns the number of these names that may be due (`is_owable`).
+// Counts the items of `names` that may be due (`is_owable`). A name that is there twice counts twice.
 fn count_due(snapshot: &World, names: &[Name]) -> u64 {
     let mut count = 0_u64;
     for name in names {
@@ -245,7 +246,7 @@ fn count_due(snapshot: &World, names: &[Name]) -> u64 {
     count
 }
 
-// Returns the first of the names that still has to be taken, if there is one.
+// Returns the first of `names` that still has to be taken, if there is one.
 fn first_untaken_in(taken: &NameSet, names: &[Name]) -> Option<Name>
     ensures { IsUntakenIn taken.now names.now result }
 {
@@ -257,7 +258,7 @@ fn first_untaken_in(taken: &NameSet, names: &[Name]) -> Option<Name>
     None
 }
 
-// Whether a name isn't among the taken names; g doesn't have to be taken.
+// Whether a name still has to be taken: it isn't g, and isn't among the taken names.
 fn is_untaken(taken: &NameSet, name: Name) -> bool
     ensures { result ≡ is_untaken taken.now name }
 {

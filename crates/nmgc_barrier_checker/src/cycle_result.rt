@@ -1,7 +1,5 @@
-//! The result of a closed cycle.
-//!
-//! A runtime's reports of marked or freed names are compared with it. A runtime may report freed names in many lines, so no
-//! set is made for a line. The names of the cycle are in order, and each reported name is found by a binary search.
+//! The result of a closed cycle. A runtime's reports of marked or freed names are compared with it. A runtime may report
+//! freed names in many lines, so a line makes no set: each name is found by a binary search in the cycle's names.
 //!
 //! Easy to get wrong: a name made since the cycle began isn't in the snapshot, so the cycle doesn't show that it is garbage.
 //! A sweep that frees it is wrong, whether or not something refers to it.
@@ -19,9 +17,9 @@ use nmgc_world_spec::Name;
 /// The world after a cycle, and the names that reports are compared with.
 ///
 /// - `kept`: the names of the snapshot that the commands and the pushes keep, in order.
-/// - `needed`: the names kept by commands or living weak pointers, in order: not to be freed if the same weak pointers die.
+/// - `needed`: names, in order, not to be freed if the same weak pointers die: commands or living weak pointers keep them.
 /// - `old`: the number of names of each mutator in the snapshot. A name whose serial isn't below it was made since.
-/// - `dues`: how often a command made a name due in the cycle. A name that a `finalise` opens counts twice.
+/// - `dues`: how often a command made a name due in the cycle, counted as by `Cycle::dues`.
 #[derive(Drop)]
 pub struct CycleResult {
     pub world: World,
@@ -48,9 +46,9 @@ impl CycleResult {
         }
     }
 
-    /// Returns the reason, if any, why the runtime can't have freed these names. One of them isn't in the heap, was made
-    /// since the cycle began, or is needed by the commands or by a weak pointer that lives on. Takes no memory, and time for
-    /// each name times the logarithm of the number of needed names.
+    /// Returns the reason, if any, why the runtime can't have freed these names. Each name has to be in the heap and in the
+    /// snapshot, and neither commands nor a weak pointer that lives on may need it. Takes no memory, and time for each name
+    /// times the logarithm of the number of needed names.
     pub fn reason_against_freed(&self, names: &[Name]) -> Option<Why>
         ensures { IsFreedIf names.now self.now result }
     {
@@ -70,14 +68,14 @@ impl CycleResult {
     }
 }
 
-// Whether the name is g or one of a world's names, by the number of names of each mutator in the world.
+// Whether the name is g or one of a world's names. `serials` has the number of names of each mutator in that world.
 fn is_old(serials: &[u32], name: Name) -> bool
     ensures { result ≡ is_old serials.now name }
 {
     name == Name::SHARED || name.serial < serial_in(serials, name.maker)
 }
 
-// Returns the number of names of the maker, or 0 if the maker isn't a mutator.
+// Returns the maker's number in `serials`, or 0 if the maker isn't a mutator.
 fn serial_in(serials: &[u32], maker: u8) -> u32
     ensures { result ≡ slice_index_or serials.now maker 0 }
 {
@@ -87,8 +85,8 @@ fn serial_in(serials: &[u32], maker: u8) -> u32
     }
 }
 
-/// Returns the first of `others` that isn't in `names`, if any. Makes a set of `names`, with memory and time for each name of
-/// the world. Each name takes constant time, but a name of `others` outside the set takes a search of `names`.
+/// Returns the first of `others` that isn't in `names`, if any. Takes memory and time for each name of the world, for a set
+/// of `names`. An item of `others` takes constant time if it is in the set, and otherwise a search of `names`.
 pub(crate) fn first_missing(
     world: &World,
     names: &[Name],
@@ -105,7 +103,7 @@ pub(crate) fn first_missing(
     Ok(None)
 }
 
-// Whether `name` is in `names`. All names of `set` are in `names`, and are found in constant time.
+// Whether `name` is in `names`. Requires that each name of `set` is in `names`. A name of `set` is found in constant time.
 fn is_among(set: &Marks, names: &[Name], name: Name) -> bool
     requires { (n : NameAt) → IsMarked set.now n → Contains names.now n }
     ensures { IsTrue result ↔ Contains names.now name }

@@ -1,13 +1,11 @@
-//! The names that a command makes due.
+//! The names that a command makes due. A command breaks a field of the snapshot if the world has the field before the command
+//! and not after it. A command changes at most one object, at few positions: the field that `set` or `cas` writes, the top
+//! that `pop` removes, or a thunk's positions that `update` gives up. So the fields that both worlds have at these positions
+//! are noted before the command (`common_fields`), and those that the world doesn't have after it are found
+//! (`missing_fields`). The names that a finalised weak pointer kept are read in the snapshot.
 //!
-//! A command breaks a field of the snapshot if the world has the field before the command and not after it. A command changes
-//! at most one object, at few positions: the field that `set` or `cas` writes, the top that `pop` removes, or a thunk's
-//! positions that `update` gives up. So the fields that both worlds have at these positions are noted before the command
-//! (`common_fields`), and those that the world doesn't have after it are found (`missing_fields`). The names that a finalised
-//! weak pointer kept are read in the snapshot. So no table of writes is needed beside the heap's own step.
-//!
-//! Easy to get wrong: once the snapshot's field has gone, another field with its target is no field of the snapshot. It is
-//! one only if the target is written back to the same position of the same object.
+//! Easy to get wrong: a field of the snapshot that was broken is whole again only if its target is written back to the same
+//! position of the same object. Another field with the same target is no field of the snapshot.
 ghost use Rattle.std.specs.Prelude.{◌≡◌, ◌<◌, ◌≤◌, ◌++◌, true, length, filter, not, option_to_list, Some, IfOk, OnOk, Contains};
 ghost use Rattle.nmgc_world_spec.specs.{Command.HasRegisters, World.node_of, Owed.names_among};
 ghost use Rattle.nmgc_world_laws.specs.Holds.{strong_at};
@@ -43,7 +41,7 @@ fn strong_at(node: &Node, place: usize) -> Option<Value>
     fields.get(place).copied()
 }
 
-// Returns the value in a thunk's strong field at a position: its result at 0, then its free variables until it has a result.
+// Returns a thunk's strong field at `place`, if any: its result at 0, and its free variables from 1 on until it has a result.
 fn thunk_at(free: &[Value], answer: Option<Value>, place: usize) -> Option<Value>
     ensures { result ≡ strong_at (NodeIs.Thunk free.now answer) place }
 {
@@ -83,7 +81,7 @@ pub fn has_field(world: &World, field: Field) -> bool
     is_ref_to(field.target, strong_in(world, field.name, field.place))
 }
 
-// Returns the first position that a change of an object may write or remove.
+// Returns the first position at which a change of an object may overwrite or remove a field, or 0 if there is none.
 fn first_place(change: Change, node: &Node) -> usize
     ensures { result ≡ first_place change node.now }
 {
@@ -102,7 +100,7 @@ fn first_place(change: Change, node: &Node) -> usize
     }
 }
 
-// Returns the position after the last position that a change of an object may write or remove.
+// Returns the position after the last position at which a change of an object may overwrite or remove a field; 0 for none.
 fn end_place(change: Change, node: &Node) -> usize
     ensures { result ≡ end_place change node.now }
 {
@@ -129,7 +127,7 @@ fn end_place(change: Change, node: &Node) -> usize
     }
 }
 
-// Returns the field that both the snapshot and the world have at a position, if there is one.
+// Returns the field at a position of a name's object if both the snapshot and the world have it.
 fn field_at(snapshot: &World, world: &World, name: Name, place: usize) -> Option<Field>
     ensures some { (f : FieldAt) → result ≡ Some f → (f.name ≡ name) × (f.place ≡ place) × (stands_in snapshot.now f ≡ true) × (stands_in world.now f ≡ true) }
     ensures all { (f : FieldAt) → f.name ≡ name → f.place ≡ place → stands_in snapshot.now f ≡ true → stands_in world.now f ≡ true → result ≡ Some f }
@@ -149,7 +147,7 @@ fn field_at(snapshot: &World, world: &World, name: Name, place: usize) -> Option
     }
 }
 
-// Returns the fields that both worlds have at positions from `first` until `end`.
+// Returns the fields that both worlds have in a name's object, at the positions from `first` on that are below `end`.
 fn fields_at(
     snapshot: &World,
     world: &World,
@@ -178,7 +176,8 @@ fn note(fields: &mut List<Field>, found: Option<Field>) -> Result<(), NoMemory>
     }
 }
 
-/// Returns the fields that both worlds have at positions that a command may write or remove, in constant time for each.
+/// Returns the fields that both worlds have at positions at which a command may overwrite or remove a field. Requires that
+/// the mutator and the command's registers exist. Takes constant time for each position.
 pub(crate) fn common_fields(
     snapshot: &World,
     world: &World,
@@ -189,7 +188,7 @@ pub(crate) fn common_fields(
     requires registers { HasRegisters command.now }
     ensures { IfOk result (IsStanding snapshot.now world.now mutator command.now) }
 {
-    match world.asked(mutator, command) {
+    match world.asked_change(mutator, command) {
         Some((Value::Ref(name), change)) => match world.node(name) {
             Some(node) => fields_at(
                 snapshot,
@@ -204,7 +203,7 @@ pub(crate) fn common_fields(
     }
 }
 
-/// Returns each of the fields that the world doesn't have.
+/// Returns the fields of the list that the world doesn't have.
 pub(crate) fn missing_fields(world: &World, fields: &[Field]) -> Result<List<Field>, NoMemory>
     ensures { IfOk result (λ gone. gone ≡ filter (λ f. not (stands_in world.now f)) fields.now) }
 {
@@ -217,8 +216,8 @@ pub(crate) fn missing_fields(world: &World, fields: &[Field]) -> Result<List<Fie
     Ok(gone)
 }
 
-/// Returns those weak pointers that are alive in the snapshot, with the names in their values and finalisers there.
-pub(crate) fn kept_then(snapshot: &World, weaks: &[Name]) -> Result<Vec<Name>, NoMemory>
+/// Returns, for each of `weaks` that is alive in the snapshot, its name and the names in its value and its finaliser.
+pub(crate) fn kept_by_weaks(snapshot: &World, weaks: &[Name]) -> Result<Vec<Name>, NoMemory>
     ensures { IfOk result (λ names. names.items ≡ kept_then snapshot.now weaks.now) }
 {
     let mut names = Vec::new(snapshot.alloc());
@@ -234,7 +233,7 @@ pub(crate) fn kept_then(snapshot: &World, weaks: &[Name]) -> Result<Vec<Name>, N
     Ok(names)
 }
 
-/// Whether a name is in the snapshot and isn't g's: no other name can be due. Takes no memory and constant time.
+/// Whether a name may come due: it is in the snapshot and isn't g. Takes no memory and constant time.
 pub fn is_owable(snapshot: &World, name: Name) -> bool
     ensures { result ≡ is_pushed_in snapshot.now name }
 {

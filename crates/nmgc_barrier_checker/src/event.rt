@@ -13,8 +13,7 @@ pub enum Event {
         answer: Reply,
     },
     /// A mutator gave these commands, one after the other, and each was done: its answer was a value, or there was none to
-    /// give. So one line can represent a copy of many fields, or a fill (`rows`). A command with another kind of answer
-    /// doesn't count as done, even if it wrote: an exchange answers yes, and an update answers that it updated.
+    /// give (`rows`). A command with another answer doesn't count as done, even if it wrote, as an exchange that answers yes.
     Rows {
         mutator: u8,
         commands: List<Command>,
@@ -56,8 +55,7 @@ pub enum Event {
 pub enum Why {
     /// No event of this kind can happen here: in a cycle, between cycles, or after the stop.
     Misplaced,
-    /// There is no such mutator or register, or the mutator has no serial left. A settle can have this reason too, and so can
-    /// several commands in one line, even zero.
+    /// There is no such mutator (also for a settle, or for zero commands in a line) or register, or there is no serial left.
     CannotApply,
     /// The heap gives this answer. It isn't the event's, or doesn't mean that the command in a line of several was done.
     Answer(Reply),

@@ -3,14 +3,13 @@
 //! A collector that marks from a snapshot while mutators run loses nothing if its barrier remembers the names that are due
 //! (`nmgc_barrier_laws`). These are the targets of the snapshot's fields that commands remove, the values read out of weak
 //! pointers, and the names that a finalised weak pointer kept. The snapshot, the heap and the commands alone decide that. So
-//! a runtime's barrier is checked without its marker, by the steps of the mutators and the remembered names. Each step is
-//! allowed, or refused with a reason. A reason about a debt has the line since which its name is due.
+//! a runtime's barrier is checked without its marker, by the steps of the mutators and the remembered names.
 //!
 //! - `event`: the events, and the reasons. `watch`: the state of a runtime, event by event, over any number of cycles.
 //! - `cycle`: one cycle. `closing`: its end. `cycle_result`: its result, compared with the names that the runtime marked or
 //!   freed. `sorted_names`: names that are found by a binary search.
-//! - `accounts`: the debts of each mutator. `name_set`: names, each once.
-//! - `due`: the names that a command makes due (`nmgc_graph::opened` has opened and finalised names). `rows`: copies, fills.
+//! - `accounts`: the debts of each mutator. `name_set`: names, each once. `rows`: copies and fills.
+//! - `due`: the names that a command makes due (`nmgc_graph::opened` has opened and finalised names).
 //! - `laws`: each event can happen or has a reason against it, never both; and a cycle that closes without debts is exact.
 //!
 //! `specs/Watching` defines the possible events, and `Watch::step` takes exactly these. `nmgc_trace_checker` uses this crate.

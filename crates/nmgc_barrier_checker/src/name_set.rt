@@ -1,7 +1,5 @@
-//! Names of a snapshot, each listed once.
-//!
-//! The set shows in constant time whether a name is there, and the list has the same names, for a loop over them. A name
-//! outside the snapshot has no position in the set, so it isn't added.
+//! Names of a snapshot, each listed once. The set shows in constant time whether a name is there, and the list has the same
+//! names, for a loop over them. A name outside the snapshot has no position in the set, so it isn't added.
 ghost use Rattle.std.specs.Prelude.{◌≡◌, ◌↔◌, [], false, IsTrue, IfOk, OnOk, OnErr};
 ghost use Rattle.nmgc_world_spec.specs.declared.value.Name.{Name as NameAt};
 ghost use Rattle.nmgc_graph.specs.Marks.{HasPlaces, mark_of};
@@ -19,13 +17,13 @@ pub(crate) struct NameSet {
 }
 
 impl NameSet {
-    /// Makes an empty list and set. Takes memory for each name of the world.
+    /// Makes an empty set and list. Takes memory for each name of the snapshot.
     pub(crate) fn new(snapshot: &World) -> Result<Self, NoMemory>
         ensures listed { IfOk result (IsListed snapshot.now) }
         ensures none { IfOk result (λ listed. listed.names ≡ []) }
         ensures free { IfOk result (λ listed. (name : NameAt) → mark_of listed.set name ≡ false) }
     {
-        let set = snapshot.no_names()?;
+        let set = snapshot.empty_set()?;
         let names = List::new(snapshot.alloc());
         Ok(NameSet { set, names })
     }
@@ -44,7 +42,8 @@ impl NameSet {
         self.set.contains(name)
     }
 
-    /// Adds a name if the snapshot has it. After `NoMemory` nothing has changed. Takes amortised constant time.
+    /// Adds a name if the snapshot has it and it isn't there already. Requires that the set has a position for each name of
+    /// the snapshot. After `NoMemory` nothing has changed. Takes amortised constant time.
     pub(crate) fn add(&mut self, snapshot: &World, name: Name) -> Result<(), NoMemory>
         requires { HasPlaces snapshot.now self.old.set }
         ensures ok { OnOk result (self.new ≡ joined snapshot.now self.old name) }
@@ -58,7 +57,8 @@ impl NameSet {
         Ok(())
     }
 
-    /// Adds those names that the snapshot has. After `NoMemory` some may be added. Takes amortised constant time for each.
+    /// Adds each of `names` that the snapshot has and that isn't there already. Requires that set and list agree
+    /// (`IsListed`). After `NoMemory` some may be added. Takes amortised constant time for each.
     pub(crate) fn extend(&mut self, snapshot: &World, names: &[Name]) -> Result<(), NoMemory>
         requires { IsListed snapshot.now self.old }
         ensures listed { IsListed snapshot.now self.new }

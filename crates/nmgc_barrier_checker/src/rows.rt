@@ -1,8 +1,6 @@
-//! Several commands in one line: a copy of many fields, and a fill.
-//!
-//! A copy goes field by field through a register, as a runtime's loop does: each field is loaded, and then stored. So it is a
-//! list of commands. For the copy to happen each command has to be done, and each may make a name due. A runtime that copies
-//! within one object goes downwards if the fields move up, and upwards otherwise.
+//! Several commands in one line: a copy of many fields, and a fill. A copy goes field by field through a register: each field
+//! is loaded, and then stored. So a copy is a list of commands. It happens only if each command is done, and each may make a
+//! name due. A runtime that copies within one object goes downwards if the fields move up, and otherwise upwards.
 //!
 //! Easy to get wrong: an index above the greatest number becomes the greatest, which no object has, so the heap refuses it.
 ghost use Rattle.std.specs.Prelude.{◌≡◌, ◌<◌, IfOk};
@@ -34,8 +32,8 @@ pub struct Filling {
     pub value: Operand,
 }
 
-/// Returns the commands of a copy: a load and a store for each field. Takes time and memory for each field.
-pub fn copied(alloc: Global, copying: Copying) -> Result<List<Command>, NoMemory>
+/// Returns the commands of a copy, in order: a load and a store for each field. Takes time and memory for each field.
+pub fn copy_commands(alloc: Global, copying: Copying) -> Result<List<Command>, NoMemory>
     ensures { IfOk result (λ commands. commands ≡ copied copying copying.count) }
 {
     let mut commands = List::new(alloc);
@@ -47,7 +45,7 @@ pub fn copied(alloc: Global, copying: Copying) -> Result<List<Command>, NoMemory
 }
 
 /// Returns the commands of a fill: a store for each field. Takes time and memory for each field.
-pub fn filled(alloc: Global, filling: Filling) -> Result<List<Command>, NoMemory>
+pub fn fill_commands(alloc: Global, filling: Filling) -> Result<List<Command>, NoMemory>
     ensures { IfOk result (λ commands. commands ≡ filled filling filling.count) }
 {
     let mut commands = List::new(alloc);
@@ -57,7 +55,7 @@ pub fn filled(alloc: Global, filling: Filling) -> Result<List<Command>, NoMemory
     Ok(commands)
 }
 
-// Returns the load in step `turn` of a copy.
+// Returns the load in step `turn` of a copy. Requires that the copy has that step, from 0 on.
 fn copy_load(copying: Copying, turn: u32) -> Command
     requires { turn < copying.count }
     ensures { result ≡ load_of copying turn }
@@ -69,7 +67,7 @@ fn copy_load(copying: Copying, turn: u32) -> Command
     }
 }
 
-// Returns the store in step `turn` of a copy.
+// Returns the store in step `turn` of a copy. Requires that the copy has that step, from 0 on.
 fn copy_store(copying: Copying, turn: u32) -> Command
     requires { turn < copying.count }
     ensures { result ≡ store_of copying turn }
@@ -92,7 +90,7 @@ fn fill_store(filling: Filling, turn: u32) -> Command
     }
 }
 
-// Returns the position of the field that step `turn` of a copy copies.
+// Returns the position, among the fields to be copied, of the field that step `turn` copies. Requires such a step.
 fn turn_place(copying: Copying, turn: u32) -> u32
     requires { turn < copying.count }
     ensures { result ≡ turn_place copying turn }
@@ -104,14 +102,14 @@ fn turn_place(copying: Copying, turn: u32) -> u32
     }
 }
 
-// Returns the index of the field `place` positions after the field `first`, or the greatest number if the index is above it.
+// Returns the index of the field `place` positions after the field `first`, or 2^32 - 1 if that index is greater.
 fn index_at(first: u32, place: u32) -> u32
     ensures { result ≡ index_at first place }
 {
     first.saturating_add(place)
 }
 
-/// Whether this answer means that a command was done: the answer gives a value, or there was none to give.
+/// Whether this answer means that a command was done: `Given` or `Fine`. No other answer counts, even if the command wrote.
 pub(crate) fn is_done(answer: Reply) -> bool
     ensures { result ≡ is_done answer }
 {

@@ -1,7 +1,5 @@
-//! Names in order, each once.
-//!
-//! A name is found by a binary search, without a set. So a report on a cycle takes time for the reported and the kept names,
-//! and not for all names that the heap ever had.
+//! Names in order, each once. A name is found by a binary search, without a set. So a report on a cycle takes time for the
+//! reported and the kept names, and not for all names that the heap ever had.
 ghost use Rattle.std.specs.Prelude.{◌≡◌, ◌↔◌, IsTrue, IfSome, IfNone, IfOk, Contains};
 ghost use Rattle.nmgc_world_spec.specs.Reach.{IsBefore, IsInOrder};
 ghost use Rattle.nmgc_barrier_checker.specs.{SortedNames.StandsAt, SortedNames.IsPlaceOf, SortedNames.AreMet, Watching.IsMissingIf};
@@ -29,7 +27,7 @@ impl Model for SortedNames {
 }
 
 impl SortedNames {
-    /// Makes sorted names of a list that is in order.
+    /// Makes sorted names of a list. Requires that the list is in order, each name once.
     pub(crate) fn new(names: List<Name>) -> Self
         requires { IsInOrder names }
         ensures { result ≡ names }
@@ -63,7 +61,8 @@ impl SortedNames {
         None
     }
 
-    /// Returns the first of these names not in `others`, if any. Takes memory and time per name, and a `has` per other name.
+    /// Returns the first of these names that isn't in `others`, if any. Takes memory and time for each of these names, and
+    /// the time of `has` for each of `others`.
     pub(crate) fn first_left_out(
         &self,
         alloc: Global,
@@ -108,7 +107,7 @@ impl SortedNames {
     }
 }
 
-// Returns the number of names that come before this name.
+// Returns the number of names that come before this name, which is its position if it is there. Requires names in order.
 fn place_of(names: &[Name], name: Name) -> usize
     requires { IsInOrder names.now }
     ensures { IsPlaceOf names.now name result }
@@ -126,7 +125,7 @@ fn place_of(names: &[Name], name: Name) -> usize
     least
 }
 
-// Whether a name comes before another.
+// Whether the name `a` comes before `b`: by maker, and then by serial.
 fn is_before(a: Name, b: Name) -> bool
     ensures { IsTrue result ↔ IsBefore a b }
 {

@@ -1,8 +1,5 @@
-//! A runtime's barrier, watched from one event to the next.
-//!
-//! A runtime builds a heap by commands. Marking begins, and from then on each command may make names due until they are
-//! pushed. Marking ends, and the heap goes on, with its dead weak pointers dead. So there may be any number of cycles. Each
-//! event is taken if it can have happened (`specs/Watching`, `Can`), and otherwise refused with a reason that is a fact.
+//! A runtime's barrier, watched from one event to the next. Each event is taken if it can have happened (`specs/Watching`,
+//! `Can`), and otherwise refused with a reason that is a fact.
 //!
 //! Easy to get wrong: a refused event changes nothing, so a test can go on. But the commands before it in its line stay done.
 ghost use Rattle.std.specs.Prelude.{◌≡◌, ◌↔◌, ◌<◌, ◌≤◌, length, IfOk, IsTrue};
@@ -65,7 +62,7 @@ impl Running {
         self.cycle.world().mutators()
     }
 
-    // Returns the reason why a mutator hasn't settled, or `None` if it has.
+    // Returns the reason why a mutator hasn't settled its debts or doesn't exist, or `None` if there is no such reason.
     fn reason_against_settle(&mut self, mutator: u8) -> Option<Why>
         ensures settle { IsSettle mutator self.old result }
         ensures same { self.new ≡ self.old }
@@ -73,14 +70,14 @@ impl Running {
         self.cycle.reason_against_settle(mutator)
     }
 
-    // Returns the result of a close, or the reason why the cycle can't end.
+    // Returns the result of a close without reported deaths, or a reason why the cycle can't end.
     fn result_or_why(&self) -> Result<Result<CycleResult, Why>, NoMemory>
         ensures { IfOk result (IsEnding self.now) }
     {
         self.cycle().result_or_why()
     }
 
-    // Returns the result of a close at which exactly these weak pointers die, or the reason against such a close.
+    // Returns the result of a close at which exactly these weak pointers die, or a reason against such a close.
     fn result_or_why_with(&self, named: &[Name]) -> Result<Result<CycleResult, Why>, NoMemory>
         ensures { IfOk result (IsEndingWith self.now named.now) }
     {
@@ -102,7 +99,7 @@ pub enum Watch {
 }
 
 impl Watch {
-    /// Makes a watch over the empty heap of 1 to `MAKERS` mutators.
+    /// Makes a watch over the empty heap of `mutators` mutators. Requires at least 1 and at most `MAKERS` mutators.
     pub fn new(alloc: Global, mutators: u8) -> Result<Self, NoMemory>
         requires some { 1 ≤ mutators }
         requires few { mutators ≤ MAKERS }
@@ -113,16 +110,13 @@ impl Watch {
 
     /// Takes the event of a line and returns `None`, or refuses it and returns the reason. `line` is any number of the
     /// caller's, by which a debt is reported. A refused event changes nothing, but several commands in one line
-    /// (`Event::Rows`) are done up to the refused one. After `NoMemory` the watch may be in any state.
+    /// (`Event::Rows`) are done up to the refused command. After `NoMemory` the watch may be in any state.
     ///
-    /// A push, a take and a settled mutator take amortised constant time. A command takes that time for each operand, each
-    /// field of an object that it makes, and each field that it may remove. That is true of each of several commands in a
-    /// line too. The beginning of a cycle and the stop take time for each object. The end of a cycle takes time for each
-    /// object and each field. A report of marked names takes time for each kept name; one that passes lists them all. A
-    /// report of marked or freed names takes a binary search for each reported name.
-    ///
-    /// Memory grows with the heap alone. A cycle has two worlds (three for a moment as it begins or ends), and a few bytes
-    /// for each name and mutator.
+    /// A push, a take and a settled mutator take amortised constant time. A command, alone or among several in a line, takes
+    /// that time for each operand, each field of an object that it makes, and each field that it may remove. The beginning of
+    /// a cycle and the stop take time for each object, and the end of a cycle for each object and each field. A report of
+    /// marked names takes time for each kept name, and each reported name a binary search. Memory grows with the heap alone.
+    /// A cycle has two worlds (or three, as it begins or ends), and a few bytes for each name and mutator.
     pub fn step(&mut self, line: usize, event: &Event) -> Result<Option<Why>, NoMemory>
         ensures { IfOk result (λ why. IsStep line self.old event.now why self.new) }
     {
@@ -145,9 +139,8 @@ impl Watch {
         }
     }
 
-    /// Returns how often commands made a name due in the cycle that goes on, or in the last cycle if none goes on. A name
-    /// counts even if it was pushed before, and twice if a `finalise` opens it. Returns 0 if there was no cycle, and after
-    /// the stop. A trace in which no name came due tests no barrier. Takes no memory and constant time.
+    /// Returns how often commands made a name due in the cycle that goes on, or in the last cycle if none goes on
+    /// (`Cycle::dues`). Returns 0 if there was no cycle, and after the stop. A trace without dues tests no barrier.
     pub fn dues(&self) -> u64 {
         match self {
             Watch::Marking(running) => running.cycle().dues(),
@@ -156,16 +149,16 @@ impl Watch {
         }
     }
 
-    /// Whether the command just done at this line made a name due that its mutator didn't owe before in the cycle. If so, a
-    /// reason may name the line: at most one line for each name and mutator. Takes no memory, and time for each mutator.
-    pub fn is_owed_since(&self, line: usize) -> bool {
+    /// Whether the command just done at this line made a name due that wasn't pushed and hadn't come due by its mutator
+    /// before in the cycle. Then a reason may report the line: at most one line for each name and mutator.
+    pub fn has_new_debt_of_line(&self, line: usize) -> bool {
         match self {
-            Watch::Marking(running) => running.cycle.is_owed_since(line),
+            Watch::Marking(running) => running.cycle.has_new_debt_of_line(line),
             Watch::Between(_) | Watch::Ended(_) | Watch::Stopped => false,
         }
     }
 
-    // Does a mutator's command if the heap gives it this answer, or returns the reason why it can't have been given.
+    // Does a mutator's command if the heap can take it and gives this answer. Otherwise changes nothing and returns why not.
     fn give(
         &mut self,
         line: usize,
@@ -177,13 +170,14 @@ impl Watch {
     {
         match self {
             Watch::Between(world) => give(world, mutator, command, answer),
-            Watch::Marking(running) => running.cycle.command(line, mutator, command, answer),
+            Watch::Marking(running) => running.cycle.do_command(line, mutator, command, answer),
             Watch::Ended(left) => give(&mut left.world, mutator, command, answer),
             Watch::Stopped => Ok(Some(Why::Misplaced)),
         }
     }
 
-    // Does a mutator's commands of one line, up to the first that can't have been done, and returns the reason against it.
+    // Does the commands of a line in order, up to the first that can't be done, and returns the reason against the line, if
+    // any. Does none if the watch has stopped or there is no such mutator.
     fn do_line(
         &mut self,
         line: usize,
@@ -230,7 +224,7 @@ impl Watch {
         }
     }
 
-    // Does the commands in turn up to the first that can't be done, and returns the reason against that command, if any.
+    // Does the commands in order up to the first that can't be done, and returns the reason against that command, if any.
     fn act_all(
         &mut self,
         line: usize,
@@ -248,7 +242,7 @@ impl Watch {
         Ok(None)
     }
 
-    // Does one of several commands in a line, or returns the reason why it can't have been done and changes nothing.
+    // Does one of several commands in a line. If it can't be done, returns the reason and changes nothing.
     fn act(&mut self, line: usize, mutator: u8, command: &Command) -> Result<Option<Why>, NoMemory>
         ensures { IfOk result (λ why. IsAct line mutator command.now self.old why self.new) }
     {
@@ -273,7 +267,7 @@ impl Watch {
         Ok(None)
     }
 
-    // Adds a pushed name, or returns the reason why it can't have been pushed.
+    // Takes the push of a name (`Cycle::push`), or returns the reason why the name can't have been pushed.
     fn push(&mut self, name: Name) -> Result<Option<Why>, NoMemory>
         ensures { IfOk result (λ why. IsStep 0 self.old (event.Push name) why self.new) }
     {
@@ -283,7 +277,7 @@ impl Watch {
         }
     }
 
-    // Returns the reason why a mutator can't have settled, if there is one.
+    // Returns the reason why a mutator can't have settled its debts, or `None` if it has settled them.
     fn reason_against_settle(&mut self, mutator: u8) -> Option<Why>
         ensures { IsStep 0 self.old (event.Settle mutator) result self.new }
     {
@@ -293,7 +287,7 @@ impl Watch {
         }
     }
 
-    // Adds a name that the marker took, or returns the reason why it can't have been taken.
+    // Adds a name that the marker took, or returns the reason why the name can't have been taken.
     fn take(&mut self, name: Name) -> Result<Option<Why>, NoMemory>
         ensures { IfOk result (λ why. IsStep 0 self.old (event.Take name) why self.new) }
     {
@@ -303,7 +297,7 @@ impl Watch {
         }
     }
 
-    // Ends marking, or returns the reason why marking can't end.
+    // Ends marking with the death of all dead weak pointers, or returns the reason why marking can't end.
     fn close(&mut self) -> Result<Option<Why>, NoMemory>
         ensures { IfOk result (λ why. IsStep 0 self.old event.Close why self.new) }
     {
@@ -376,7 +370,7 @@ impl Watch {
     }
 }
 
-// Does a command in the world if it can be done and has this answer. Otherwise changes nothing and returns the reason.
+// Does a command in the world if the world can take it and gives this answer. Otherwise returns why not and changes nothing.
 fn give(
     world: &mut World,
     mutator: u8,
@@ -396,7 +390,7 @@ fn give(
     Ok(None)
 }
 
-// Does a command in the world if the heap's answer means that it is done. Otherwise changes nothing and returns the reason.
+// Does a command in the world if the world's answer means that it is done. Otherwise changes nothing and returns the reason.
 fn act(world: &mut World, mutator: u8, command: &Command) -> Result<Option<Why>, NoMemory>
     ensures { IfOk result (λ why. IsDoneIf world.old mutator command.now why world.new) }
 {

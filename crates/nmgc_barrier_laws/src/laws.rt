@@ -1,44 +1,51 @@
-//! The theorems of the lax rule. Each function does nothing: its contract is the law. By the lax rule (`specs/Lax`) a command
-//! owes at least the names that are due (`specs/Due`) and at most names that may be held. The marker may take these names in
-//! any order. By the strict rule of the marking machine, the command owes exactly `owed_by`.
+//! Theorems of the lax rule, a watched barrier and finished markers. Each function does nothing: its contract is the law.
+//!
+//! By the strict rule of the marking machine, a command owes exactly `owed_by`. By the lax rule (`specs/Lax`) it owes all due
+//! names (`specs/Due`) that aren't marked, owed or pushed yet, and perhaps others that may be held. A *lax step* is such a
+//! command, another order of waiting names, a push, a mark of a name that may be held, or a scan. A *watched cycle* sees only
+//! commands, pushes and reports of taken names (`Watches`). Its debts are due names not yet pushed. Worlds are closed
+//! (`IsWorld`).
 ghost use Rattle.nmgc_barrier_laws.specs.{Barrier.BarrierTheorem, Barrier.JointTheorem, Barrier.SomeMarkerFinishes, Barrier.SomeMarkerIsBeside, Lax.CoreIsLax, Lax.LaxKeepsFacts, Lax.LaxTheorem};
 
-/// Proves that the marking machine is lax: each of its events that happens, except the end, is a list of lax steps.
-pub fn a_core_event_is_lax()
+/// Proves that each event that the marking machine does, except the end, is a list of lax steps. Requires that the marking
+/// machine's invariant (`Facts`) holds before the event, and that the world is closed (`IsWorld`).
+pub fn a_machine_event_is_lax()
     ensures { CoreIsLax }
 {}
 
-/// Proves that each lax step keeps the marking machine's invariant (`Facts`), whatever the state before the step. So a
-/// barrier keeps the invariant if it remembers at least the names that are due, along with any other names and in any order.
+/// Proves that a lax step keeps the marking machine's invariant (`Facts`) and a closed world (`IsWorld`), if the state before
+/// has both. So a barrier may remember names in any order, and more names than are due.
 pub fn a_lax_step_keeps_the_facts()
     ensures { LaxKeepsFacts }
 {}
 
-/// Proves the snapshot theorem for lax runs: until the closing every marked name is live, and any closing is exact. So a
-/// marker with a lax barrier is exact, if names remembered without need count as opened.
+/// Proves the snapshot theorem for lax runs: lax steps from the opening of a world. Every marked name is live in the
+/// snapshot. Each closing that is possible after the steps is exact (`IsExactClosing`). Names that commands opened, and names
+/// that `IsFloated` steps pushed, count as roots here.
 pub fn a_lax_marking_is_exact()
     ensures { LaxTheorem }
 {}
 
-/// Proves that a watched barrier is exact, whatever the marker beside it takes and reads, and whenever. Without debts nothing
-/// is owed, so the end waits only for the marker. The end marks exactly the names that the commands and the pushes keep.
+/// Proves that a watched cycle is exact with any marker beside it (`Beside`). If the cycle has no debts, the marker's state
+/// owes nothing. If the marker can end (`IsPossible`), its end marks exactly the names that the commands and pushes keep
+/// (`MarksName`). The marker marks only names that may be held, and scans and takes in any order.
 pub fn a_barrier_without_debts_is_exact()
     ensures { BarrierTheorem }
 {}
 
-/// Proves that a finished marker is exact. Beside commands and pushes that leave no debts, a marker can end if it has taken
-/// all pushed names and emptied its queue. Its end marks exactly the names that the commands and pushes keep (`MarksName`).
-/// Exactly the weak pointers die that are dead if opened and pushed names count as live.
+/// Proves that a finished marker can end, and ends exactly, beside commands and pushes that leave no debts. A marker has
+/// finished when it has taken all pushed names and emptied its queue. Its end marks exactly the names that the commands and
+/// pushes keep (`MarksName`). Exactly the dead weak pointers die. Names that were opened or pushed count as roots.
 pub fn a_finished_marker_is_exact()
     ensures { JointTheorem }
 {}
 
-/// Proves that a marker is possible beside any list of commands and pushes.
+/// Proves that there is a marker beside each watched cycle (`Beside`), whatever the cycle has seen.
 pub fn a_marker_is_possible()
     ensures { SomeMarkerIsBeside }
 {}
 
-/// Proves that a finished marker is possible beside any commands and pushes. So `a_finished_marker_is_exact` isn't empty.
+/// Proves that there is a finished marker beside each watched cycle. So `a_finished_marker_is_exact` isn't an empty claim.
 pub fn a_finished_marker_is_possible()
     ensures { SomeMarkerFinishes }
 {}

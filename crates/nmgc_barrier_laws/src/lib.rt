@@ -1,13 +1,12 @@
 //! Why marking loses nothing with a barrier that remembers less than the barrier of the marking machine.
 //!
 //! A barrier may leave out all names that the snapshot doesn't need. The names that it has to remember are due (`specs/Due`).
-//! A name becomes due when a field of the snapshot that was still unchanged goes, or a weak pointer is read or finalised.
-//! That depends on the snapshot, the world and the command alone, so a barrier can be watched without any marker
+//! They depend on the snapshot, the world and the command alone, so a barrier can be watched without any marker
 //! (`specs/Cycle`, with `debt`s). The theorems are in `laws`: a marker with such a barrier is exact (`specs/Lax`), and so is
 //! every marker beside a watched barrier (`specs/Barrier`).
 //!
 //! Easy to get wrong: a mark doesn't pay a debt. A trace doesn't say when the real marker read what, and a barrier that
-//! relies on that loses objects under another schedule.
+//! relies on marks loses objects under another schedule.
 #![tactic(auto)]
 
 pub mod debt;

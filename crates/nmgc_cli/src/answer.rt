@@ -1,4 +1,4 @@
-//! The reason why no task was done: an answer is a refusal, or the output of a task that was done.
+//! Refusals, the reasons why no task was done. An answer is a refusal, or the output of a task that was done.
 //!
 //! An answer is settled before the sink is touched. Its status, its report and its text are functions of the answer, so they
 //! always agree: no refusal is `Done`, and no report goes with a refusal. Easy to get wrong: there may be no memory for the
@@ -45,6 +45,7 @@ impl Refusal {
     }
 }
 
+// A lack of memory, as a refusal.
 impl From<NoMemory> for Refusal {
     ghost from_gives = { λ _ refusal. refusal ≡ no_memory };
 
@@ -53,6 +54,7 @@ impl From<NoMemory> for Refusal {
     }
 }
 
+// The end of a source that couldn't be read to its end, as a refusal.
 impl From<ReadEnd> for Refusal {
     ghost from_gives = { λ end refusal. refusal ≡ read_refusal end };
 
@@ -65,6 +67,7 @@ impl From<ReadEnd> for Refusal {
     }
 }
 
+// A parser's fault, as a refusal: the same bad line and cause, or `NoMemory`.
 impl From<ScriptFault> for Refusal {
     ghost from_gives = { λ fault refusal. refusal ≡ script_refusal fault };
 
@@ -76,6 +79,7 @@ impl From<ScriptFault> for Refusal {
     }
 }
 
+// An image's fault, as a refusal: the same bad line, or `NoMemory`.
 impl From<ImageFault> for Refusal {
     ghost from_gives = { λ fault refusal. refusal ≡ image_refusal fault };
 

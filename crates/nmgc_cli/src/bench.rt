@@ -30,7 +30,7 @@ pub fn batches_of(arguments: &[String]) -> Option<u32>
     }
 }
 
-// Returns the number of batches that a subcommand and a number ask for, or `None` exactly if they ask for no bench.
+// Returns the number of batches that a subcommand and a token ask for, or `None` exactly if they ask for no bench.
 fn batches_named(name: &str, number: &str) -> Option<u32>
     ensures asked { IfSome result (λ batches. Asks (name.now ∷ number.now ∷ []) (Bench batches)) }
     ensures none { IfNone result ((batches : ℕ) → Asks (name.now ∷ number.now ∷ []) (Bench batches) → ⊥) }
@@ -54,7 +54,7 @@ fn batches_in(argument: &[u8]) -> Option<u32>
     Some(number as u32)
 }
 
-/// Runs a bench of `batches` batches, and returns its answer: the summary of its report.
+/// Runs the bench's script of `batches` batches. Returns the answer of `bench N`: the report with its summary, or a refusal.
 pub fn bench<R: Threads + Sync>(alloc: Global, rt: &R, batches: u32) -> Result<Output, Refusal>
     requires { IsBench batches }
     ensures { AnswersWithReport (IsSummary batches) (AnswersBench batches) result }
@@ -64,7 +64,7 @@ pub fn bench<R: Threads + Sync>(alloc: Global, rt: &R, batches: u32) -> Result<O
     Ok(Output::of_report(report, text))
 }
 
-// Runs a bench of `batches` batches, and returns its report. The report is lawful, so it answers fewer than 2^64 commands.
+// Runs the bench's script of `batches` batches, and returns its report, which answers fewer than 2^64 commands.
 fn bench_report<R: Threads + Sync>(alloc: Global, rt: &R, batches: u32) -> Result<Report, NoMemory>
     requires { IsBench batches }
     ensures run { IfOk result (λ report. IsRunOf (bench_script batches) report) }

@@ -13,7 +13,7 @@ use nmgc_lists::NoMemory;
 use std::alloc::Global;
 use std::thread::Threads;
 
-/// Reads a script and runs it, and returns the answer of `image`: the text of the image that shows the heap after the run.
+/// Reads a script, runs it, and returns the answer of `image`: the report with the last heap's image, or a refusal.
 pub fn image<R: Threads + Sync, S: Source>(
     alloc: Global,
     rt: &R,
@@ -26,12 +26,12 @@ pub fn image<R: Threads + Sync, S: Source>(
     Ok(Output::of_report(report, text))
 }
 
-// Returns the text of the image that shows the heap that the report's run left.
+// Returns the text of an image of the heap that the report's run left.
 fn image_of(alloc: Global, report: &Report) -> Result<Vec<u8>, NoMemory>
     requires { IsOfScript report.now }
     ensures { IfOk result (λ text. IsImageText report.now text.items) }
 {
-    // The law that a run's heap represents a world requires sound segments. This call gives the proof that they are sound.
+    // Note [Lines that do nothing] in `nmgc_alloc`: this gives the prover that segments are sound, for laws on a run's heap.
     let _layout = report.segments.layout();
     write_image(alloc, report)
 }

@@ -35,7 +35,7 @@ pub fn markers_of(arguments: &[String]) -> Option<u8>
     }
 }
 
-// Returns the number of markers that a subcommand and a number ask for, or `None` exactly if they ask for no marks.
+// Returns the number of markers that a subcommand and a token ask for, or `None` exactly if they ask for no marks.
 fn markers_named(name: &str, number: &str) -> Option<u8>
     ensures asked { IfSome result (λ markers. Asks (name.now ∷ number.now ∷ []) (Marks markers)) }
     ensures none { IfNone result ((markers : ℕ) → Asks (name.now ∷ number.now ∷ []) (Marks markers) → ⊥) }
@@ -59,7 +59,7 @@ fn markers_in(argument: &[u8]) -> Option<u8>
     Some(number as u8)
 }
 
-/// Reads a script and runs it, and returns the answer of `marks N`: the names that N markers mark in the heap after the run.
+/// Reads a script, runs it, and returns the answer of `marks N`: the report with the names that N markers mark, or a refusal.
 pub fn marks<R: Threads + Sync, S: Source>(
     alloc: Global,
     rt: &R,
@@ -75,8 +75,8 @@ pub fn marks<R: Threads + Sync, S: Source>(
     Ok(Output::of_report(report, text))
 }
 
-/// Lets `markers` markers mark the heap that a run left, and returns the text of `marks N`. It has the numbers of markers and
-/// of names reached, the names in order, and the report's last line. Takes memory for heap words, markers and text.
+/// Lets `markers` markers mark the heap that a run left, and returns the text of `marks N`. The text has N, the number of
+/// names marked, these names in order, and the end of the run. Takes memory for heap words, markers and text.
 pub fn marks_text<R: Threads + Sync>(
     alloc: Global,
     rt: &R,
@@ -93,8 +93,8 @@ pub fn marks_text<R: Threads + Sync>(
 }
 
 /// Lets `markers` markers mark the heap that a run left, and returns their claims: for each marker, the names that it marked.
-/// Each marker passes `gate` before each object; a test has a gate at which two markers meet. Takes memory for the markers
-/// and for a copy of the heap's words. The threads need the copy: a closed table and its row of words aren't `Sync`.
+/// Requires a possible number of markers, and the report of a run of a script. Each marker passes `gate` before each object;
+/// a test has a gate at which two meet. Takes memory for markers and copied words.
 pub fn claims_of<R: Threads + Sync, G: Gate>(
     alloc: Global,
     rt: &R,
@@ -107,9 +107,9 @@ pub fn claims_of<R: Threads + Sync, G: Gate>(
     ensures { IfOk result (λ claims. AreClaimsOf markers report.now claims.by) }
 {
     a_stop_is_stopped();
-    // The law that a run's heap represents a world requires sound segments. This call gives the proof that they are sound.
+    // Note [Lines that do nothing] in `nmgc_alloc`: this gives the prover that segments are sound, for laws on a run's heap.
     let _ = report.segments.layout();
-    let words = copied(alloc, &report.words)?;
+    let words = copy_words(alloc, &report.words)?;
     let roots = root_words(alloc, report.mutators.items())?;
     mark_all(
         alloc,
@@ -122,8 +122,8 @@ pub fn claims_of<R: Threads + Sync, G: Gate>(
     )
 }
 
-// Copies the words of the heap into a vector, which several threads may read at once.
-fn copied(alloc: Global, words: &FinalWords) -> Result<Vec<u64>, NoMemory>
+// Returns a copy of the heap's words as a vector, which several threads may read at once.
+fn copy_words(alloc: Global, words: &FinalWords) -> Result<Vec<u64>, NoMemory>
     ensures { IfOk result (λ copy. copy.items ≡ words.now) }
 {
     let mut copy = Vec::with_capacity(alloc, words.len())?;
@@ -147,7 +147,7 @@ fn root_words(alloc: Global, mutators: &[MutatorEnd]) -> Result<Vec<u64>, NoMemo
     Ok(roots)
 }
 
-// Returns the text for `markers` markers: their number, the number of `names`, each name, and the end of the run.
+// Returns the text of `marks N` for N = `markers`: N, the number of `names`, a line for each name, and the end of the run.
 fn lines(alloc: Global, markers: u8, names: &[Name], end: End) -> Result<Vec<u8>, NoMemory>
     ensures { IfOk result (λ text. text.items ≡ marks_lines markers names.now end) }
 {

@@ -8,7 +8,7 @@ use nmgc_lists::NoMemory;
 use nmgc_script::Cause;
 use std::alloc::Global;
 
-/// Returns the fixed text of a refusal that reports no bad line. Takes no memory.
+/// Returns the text of a refusal. Requires that the refusal reports no bad line: then its text is fixed. Takes no memory.
 pub fn message(refusal: Refusal) -> &'static [u8]
     requires { IsBad refusal → ⊥ }
     ensures { result.now ≡ refusal_text refusal }
@@ -23,7 +23,7 @@ pub fn message(refusal: Refusal) -> &'static [u8]
     }
 }
 
-/// Returns the text that reports the first bad line of a script, from 1, and its cause.
+/// Returns the text of a script's first bad line: its number, counted from 1, and its cause.
 pub fn bad_line(alloc: Global, line: u32, cause: Cause) -> Result<Vec<u8>, NoMemory>
     ensures { IfOk result (λ text. text.items ≡ bad_line line cause) }
 {
@@ -35,7 +35,7 @@ pub fn bad_line(alloc: Global, line: u32, cause: Cause) -> Result<Vec<u8>, NoMem
     Ok(text)
 }
 
-/// Returns the text that reports the first bad line of an image, from 1.
+/// Returns the text of an image's first bad line: its number, counted from 1.
 pub fn bad_image_line(alloc: Global, line: u32) -> Result<Vec<u8>, NoMemory>
     ensures { IfOk result (λ text. text.items ≡ bad_image_line line) }
 {

@@ -1,7 +1,6 @@
 //! The output of an answer: its status, its report and its text.
 //!
-//! A task that was done returns its output. The text of a bad line takes memory. If it is lacking, the answer is `NoMemory`
-//! in place of the refusal.
+//! A task that was done returns its output. The text of a bad line takes memory. Without it, the answer is `NoMemory`.
 ghost use Rattle.std.specs.Prelude.{◌≡◌, ◌⊎◌, Some, Err};
 ghost use Rattle.nmgc_cli.specs.Answer.{IsBad, IsOutputOf, status_of};
 
@@ -22,7 +21,7 @@ pub struct Output {
 }
 
 impl Output {
-    /// Makes the output of a script that was run, from its report and the text to write.
+    /// Returns the output of a script that was run: its report, the status of the report's end, and `text`.
     pub fn of_report(report: Report, text: Vec<u8>) -> Self
         ensures { result ≡ record { status = status_of report.end; report = Some report; text = Text.Made text } }
     {
@@ -34,7 +33,7 @@ impl Output {
     }
 }
 
-/// Returns the output of a refusal. For a bad line it may be the output of `NoMemory`, if there is no memory for the text.
+/// Returns the output of a refusal, or the output of `NoMemory` if there is no memory for the text of a bad line.
 pub fn output_of_refusal(alloc: Global, refusal: Refusal) -> Output
     ensures { IsOutputOf (Err refusal) result ⊎ (IsBad refusal × IsOutputOf (Err Refusal.NoMemory) result) }
 {
@@ -73,7 +72,7 @@ fn output_of_bad_image(alloc: Global, line: u32) -> Output
     }
 }
 
-// Returns the output of a refusal whose text takes no memory.
+// Returns the output of a refusal. Requires that the refusal reports no bad line: then its text is fixed and takes no memory.
 fn output_of_fixed(refusal: Refusal) -> Output
     requires { IsBad refusal → ⊥ }
     ensures { IsOutputOf (Err refusal) result }

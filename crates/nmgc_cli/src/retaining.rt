@@ -42,7 +42,7 @@ fn name_after(subcommand: &str, name: &str) -> Option<Name>
     read_name(name.as_bytes())
 }
 
-/// Reads an image, and returns the answer of `retain NAME`: a shortest path to the object of this name, or `none`.
+/// Reads an image, and returns the answer of `retain NAME`: a shortest path to the object of this name, `none`, or a refusal.
 pub fn retain<S: Source>(alloc: Global, source: &mut S, name: Name) -> Result<Output, Refusal>
     ensures { AnswersRetain name (S.left source.old) (S.left source.new) (Rose (S.faults source.old) (S.faults source.new)) result }
 {

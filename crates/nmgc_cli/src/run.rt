@@ -1,7 +1,6 @@
 //! Reading and running a script, and the subcommand `run`.
 //!
-//! Other subcommands that read a script and run it write another text for its report. They begin with `read_and_run`, as
-//! `run` does, and differ in the text alone.
+//! Other subcommands that run a script begin with `read_and_run`, as `run` does, and differ only in the text for the report.
 ghost use Rattle.std.specs.Prelude.{◌≡◌, ◌≤◌, length, sum_by, vec_len, IfOk, IfErr, MatchResult};
 ghost use Rattle.nmgc_io.specs.Counts.{Rose};
 ghost use Rattle.nmgc_limits.specs.Limits.{most_script_bytes};
@@ -23,7 +22,7 @@ use std::alloc::Global;
 use std::mem;
 use std::thread::Threads;
 
-/// Reads a script and runs it, and returns the answer of `run`: the text of the report.
+/// Reads a script, runs it, and returns the answer of `run`: the report with its text, or a refusal.
 pub fn run<R: Threads + Sync, S: Source>(
     alloc: Global,
     rt: &R,
@@ -48,8 +47,8 @@ pub fn read_and_run<R: Threads + Sync, S: Source>(
     run_bytes(alloc, rt, bytes)
 }
 
-/// Runs the script that the bytes spell, and returns its report, or the reason why there is none. The memory of the bytes is
-/// given back before the run. Public for the test of `claims_of`.
+/// Runs the script that the bytes spell, and returns its report, or the reason why there is none. Requires at most
+/// `MAX_SCRIPT_BYTES` bytes, and gives their memory back before the run. Public for the test of `claims_of`.
 pub fn run_bytes<R: Threads + Sync>(
     alloc: Global,
     rt: &R,

@@ -64,7 +64,7 @@ pub struct Ended {
     pub report: Option<Report>,
 }
 
-// Written by hand, so that each drop calls this function.
+// Written by hand, so that each drop calls this. A derived drop is written out, and proved, at each drop.
 impl Drop for Ended {
     fn drop(self) {
         let Ended { status: _, report } = self;

@@ -1,8 +1,7 @@
 //! The tasks that the arguments of the command line ask for.
 //!
-//! A task is read from all arguments at once, so one argument too many is wrong, and so is one too few. A new task needs a
-//! variant here, a line in each definition by cases of tasks (`specs/Task.antt`, `Answers`), a subcommand in the text of
-//! `Usage`, and a function in a file of its own.
+//! A task is read from all arguments at once, so one too many is wrong, and so is one too few. A new task needs a variant
+//! here, a line in each definition by cases of tasks (`specs/Task.antt`, `Answers`), a subcommand in `Usage`, and a file.
 ghost use Rattle.std.specs.Prelude.{◌≡◌, ◌↔◌, [], ◌∷◌, map, string_bytes, IsTrue, IfSome, IfNone};
 ghost use Rattle.nmgc_cli.specs.Task.{Asks, IsWrong};
 
@@ -22,10 +21,9 @@ pub enum Task {
     Upgrade,
     /// `image`: reads and runs a script as `run` does, but writes the image of the heap that its run left.
     Image,
-    /// `retain NAME`: reads an image from the source to its end, and writes a shortest path to the object of this name, or
-    /// that there is none.
+    /// `retain NAME`: reads an image to its end, and writes a shortest path to the object of this name, or `none`.
     Retain { name: Name },
-    /// `marks N`: reads and runs a script as `run` does, but writes the names that N markers mark in the heap it left.
+    /// `marks N`: reads and runs a script as `run` does, but writes the names that N markers mark in the heap left.
     Marks { markers: u8 },
 }
 

@@ -29,7 +29,7 @@ use std::thread::Threads;
 /// - `bench N`, N from 1 to 100: reads nothing, runs the bench's script, and writes the summary of its report.
 /// - `image`: reads and runs a script as `run` does, but writes the spelling of the image that shows the last world.
 /// - `marks N`, N from 1 to 8: reads and runs a script as `run` does, but writes the names that strong fields reach from the
-///   last world's registers and queues and from the slots of g. The text is the same for any N.
+///   last world's registers and queues and from the slots of g. The names are the same for any N.
 /// - `upgrade`: reads a script as `run` does, and writes the plain spelling of its upgrade.
 /// - `retain NAME`: reads an image to its end, and writes a shortest path to the object of this name, or that there is none.
 ///
@@ -41,10 +41,10 @@ use std::thread::Threads;
 /// than the reserve. Then the last cycle kept more objects than there are segments above the reserve. The world with which
 /// that full cycle began also has more kept objects than that.
 ///
-/// Suppose that the arguments are right and that neither source nor sink fails. Suppose also that the source has a script
-/// within the limit of bytes (for `retain` an image, for `bench` anything). Then the status is `Done`, or `NoMemory` if
-/// memory runs out; a task that runs a script may also end as `HeapFull`, exactly as above. Takes memory for the bytes, for
-/// the script, for the run and for the text.
+/// Suppose that the arguments are right, neither source nor sink fails, and the bytes left in the source are known. Suppose
+/// that they spell a script within the limit of bytes (for `retain` an image, for `bench` anything). Then the status is
+/// `Done` or `NoMemory`. No clause says when memory runs out. A task that runs a script may also end as `HeapFull`, exactly
+/// as above. Takes memory for the bytes, the script, the run and the text.
 pub fn nmgc<R: Threads + Sync, S: Source, K: Sink>(
     alloc: Global,
     rt: &R,
@@ -52,7 +52,8 @@ pub fn nmgc<R: Threads + Sync, S: Source, K: Sink>(
     source: &mut S,
     sink: &mut K,
 ) -> Ended
-    // There is an answer to the arguments, with its cause. It says which bytes were read and written, and what is returned.
+    // There is an answer to the arguments, with its cause. The bytes read and written and the returned status are the
+    // answer's.
     ensures reported { (answer : Answer)
         × IsAnswer (map string_bytes arguments.now) (S.left source.old) (S.left source.new) (Rose (S.faults source.old) (S.faults source.new)) answer
         × Ends (K.taken sink.old) (K.taken sink.new) (Rose (K.faults sink.old) (K.faults sink.new)) answer result.status result.report }
@@ -74,8 +75,7 @@ pub fn nmgc<R: Threads + Sync, S: Source, K: Sink>(
     ensures unread { ReadsNothing (map string_bytes arguments.now) → source.new ≡ source.old }
     // For `run`, `image` and `marks N`: if a script within the limit is read and nothing fails, the status is `Done`,
     // `HeapFull` or `NoMemory`. If it is `HeapFull`, each run that the report describes has the cause, and so has the run in
-    // the clause `report`. The cause: its last stop did a full cycle, yet left too few segments free, and is crowded. So a
-    // run whose last stop isn't crowded doesn't end as `HeapFull`.
+    // the clause `report`. The cause: its last stop did a full cycle, yet left too few segments free, and is crowded.
     ensures complete { IsComplete (map string_bytes arguments.now) (S.left source.old) (Rose (S.faults source.old) (S.faults source.new))
         (Rose (K.faults sink.old) (K.faults sink.new)) result.status result.report }
     // For `upgrade`: if a script within the limit is read and nothing fails, the status is `Done`, unless memory runs out.
@@ -91,15 +91,15 @@ pub fn nmgc<R: Threads + Sync, S: Source, K: Sink>(
         status,
         report,
         text,
-    } = reported(alloc, rt, arguments, source);
+    } = output_for(alloc, rt, arguments, source);
     Ended {
         status: write_output(sink, status, Status::WriteFault, text.bytes()),
         report,
     }
 }
 
-// Does the task of the arguments, if they ask for one, and returns the output of the answer. Nothing is written yet.
-fn reported<R: Threads + Sync, S: Source>(
+// Does the task that the arguments ask for, and returns the output of the answer, even of a refusal. Nothing is written yet.
+fn output_for<R: Threads + Sync, S: Source>(
     alloc: Global,
     rt: &R,
     arguments: &[String],
@@ -133,7 +133,7 @@ fn answer<R: Threads + Sync, S: Source>(
     answer_to(alloc, rt, task, source)
 }
 
-// Does a task, and returns its answer.
+// Does a task, and returns its answer: the task's output, or a refusal.
 fn answer_to<R: Threads + Sync, S: Source>(
     alloc: Global,
     rt: &R,

@@ -1,8 +1,7 @@
 //! The subcommand `upgrade`: the upgrade of a script.
 //!
-//! A script is read as for a run, with the same refusals. Its plain spelling is written, in version 2 if the script has
-//! version 1, and otherwise in its own version. The programs stay, and a version doesn't affect the meaning of a script, so
-//! the upgrade runs as the script does.
+//! A script is read as for a run, with the same refusals. Its plain spelling is written, in version 2 if it has version 1,
+//! and otherwise in its own. The programs stay, and no version affects their meaning. So the upgrade runs as the script does.
 ghost use Rattle.std.specs.Prelude.{◌≤◌, length};
 ghost use Rattle.nmgc_io.specs.Counts.{Rose};
 ghost use Rattle.nmgc_limits.specs.Limits.{most_script_bytes};
@@ -17,7 +16,7 @@ use nmgc_limits::MAX_SCRIPT_BYTES;
 use nmgc_script::{is_too_long, parse, print, upgrade as upgrade_script};
 use std::alloc::Global;
 
-/// Reads a script, and returns the answer of `upgrade`: the plain spelling of the script's upgrade.
+/// Reads a script, and returns the answer of `upgrade`: the plain spelling of the script's upgrade, or a refusal.
 pub fn upgrade<S: Source>(alloc: Global, source: &mut S) -> Result<Output, Refusal>
     ensures { AnswersScript IsUpgraded (S.left source.old) (S.left source.new) (Rose (S.faults source.old) (S.faults source.new)) result }
 {

@@ -17,7 +17,7 @@ pub use Rattle.nmgc_run_laws.specs.{Course.WaitsWhole, Sound.IsInCycle, Sound.Is
 pub use Rattle.nmgc_run_spec.specs.{Closing.IsStrongObject, Closing.owed as owed_along, Heap.FitBlocks, Heap.HasAllRegisters, Heap.HeapStandsFor, Heap.HoldsAfterRound, Heap.HoldsAtStop, Heap.IsBornPlace, Heap.registers_of, Heap.serials_of, Heap.snapshots, Round.SweepsBeside, Round.answered, Round.own_rows, Run.IsRun, Run.Run, Run.last_state, Slice.slices, State.Plan, State.Progress, State.State as RunState, State.cycle_started, State.layout_of, State.marking, State.next_cycle, State.sweeping, Stop.IsCycleDue, Stop.IsFullDue}
 pub use Rattle.nmgc_segment.specs.{Marks.IsEpoch, Marks.carried, Marks.epoch_of, Segment.InSnapshot, Segment.InUse, Segment.IsMarked, Segment.IsSegment, Segment.Segment, Segment.free_segment, Segment.mark_of, declared.state.State.State as Stands, declared.state.State.TheVariants.Free, laws.Common.epoch_sound as epoch_is_epoch, laws.Segments.mark-map}
 pub use Rattle.nmgc_snapshot_laws.specs.{Closing.IsClosing, Closing.IsRescued, Closing.IsRevived, Facts.Facts, Facts.IsAhead, Facts.IsSafe, Facts.marked, Facts.owed, Facts.queued, Machine.AreEmpty, Machine.Passes, Machine.advanced, Machine.after_command, Machine.after_push, Machine.after_scan, Machine.after_take, Machine.is_pushed_in, Machine.pushed_of, Run.IsExactClosing, Run.Runs, Scan.field_at, Scan.read_at, State.State, State.State as Core, State.entry_of, State.is_listed, State.is_new, State.mark_name, State.mark_read, State.mark_values, State.names_of, State.opening, State.root_values, State.unmarked, State.unmarked as first_state, State.with_mark, declared.event.Entry.Entry, declared.event.Event.Event, laws.Commands.next_absent, laws.Common.runs_join as runs_then, laws.Ending.none_of as each_empty, laws.Listed.all_from_contains, laws.Listed.each_names, laws.Listed.is_same_name-refl, laws.Listed.listed_from, laws.Listed.names_other, laws.Listed.names_same, laws.Listed.tested_same, laws.Lives.live_there, laws.Lives.stands, laws.MarkedOnce.IsOnce, laws.MarkedOnce.once_opening, laws.MarkedOnce.once_runs, laws.MarkedOnce.stays_closed, laws.Marking.mark_cases, laws.Openings.no_names as none_at_first, laws.Openings.no_names as none_owed, laws.Runs.closing_is_exact, laws.Runs.event_keeps_facts, laws.Runs.facts_kept, laws.Runs.opening_has_facts, laws.Runs.opening_world, laws.Runs.snapshot_theorem, laws.ScanReads.read_cases, laws.Scans.has_free as thunk_free}
-pub use Rattle.nmgc_sweep.specs.{Seen.CycleSeen, Seen.SweeperSeen, Sweeping.HasListedNothing, Sweeping.HasNoted, Sweeping.IsFreedSoFar, Sweeping.IsHadSoFar, laws.NameTable.lies_exists as lies_within}
+pub use Rattle.nmgc_sweep.specs.{Seen.CycleSeen, Seen.SweeperSeen, Sweeping.HasListedNothing, Sweeping.HasNoted, Sweeping.IsFreedSoFar, Sweeping.IsListedSoFar, laws.NameTable.lies_exists as lies_within}
 pub use Rattle.nmgc_weak.specs.{Closes.QueuesClose, Queues.weak_count, Resolve.CanResolve, Weaks.places_of, declared.weaks.Death.Death, declared.weaks.OldWeak.OldWeak}
 pub use Rattle.nmgc_world_laws.specs.{Holds.CoversReach, Holds.Fields, Holds.HasStrongField, Holds.Names, Holds.free_of as free_if, Holds.has_result, Holds.strong_at, Reachable.CanReplay, Reachable.CountsNew, Reachable.HoldsOnly, Reachable.IsSound, Shape.SameShape, Shape.kind_of, Shape.made_by, Shape.part_count, Stored.Stores, Stored.place_written, Stored.value_written}
 pub use Rattle.nmgc_world_laws.specs.laws.{Barrier.field_at_place, Barrier.place_of_field, Deaths.finalised_dead, Distinct.others_counted, Growth.step_grows, HeldSteps.absent, HeldSteps.opened_has, HeldSteps.some_of, HeldSteps.step_holds_only, HeldSteps.weaks_held, Keeps.Any, Keeps.hand_nodes, Keeps.step_leaves_others, Keeps.stepped, Keeps.still_there, NodeLaws.as_many, NodeLaws.maker_there, NodeLaws.next_is_new, NodeLaws.node_born, NodeLaws.node_cases, NodeLaws.node_same, NodeLaws.nodes_kept, NodeLaws.own_node, NodeLaws.state_other, NodeLaws.state_same, NodeShapes.changed_shape, Reached.OfOld, Reached.rows_hold, Reached.step_adds_one, Reached.wide_or_new_holds, Reached.world_holds, Shapes.rows_keep_shapes, Steps.Stepped, StoredLaws.old_refers_to_young, StoredLaws.old_weaks_are_finalised, StoredLaws.old_weaks_stay, StoredLaws.step_stores, WeakMoves.all_moves, WeakMoves.opened_owed, Weaks.weak_maker, WorldSteps.change_count as count_changed, WorldSteps.step_keeps_world, Worlds.not_shared}

@@ -10,9 +10,8 @@ use Rattle.nmgc_segment.specs.Marks.{epoch_of}
 use Rattle.nmgc_collector_laws.specs.Marker.{IsTied as IsTiedByBlocks}
 use Rattle.nmgc_mark.specs.{Seen.MarkerSeen, Tie.AreApart, Tie.IsTied}
 
--- places of blocks: g and each block with a name have their places, and each place with a name of the snapshot is one of
--- these. This holds at a stop, and after a round, whose new objects are in no snapshot. The machine has marked only g and
--- names of the snapshot
+-- places of blocks: g and each named block have places, and each place with a name of the snapshot is one of these. This
+-- holds at a stop and after a round, since no snapshot has new objects. The machine marked only g and the snapshot's names
 pub record AreOfBlocks (o : Opening) (c : Cycle) (s : Segments) (words : List ℕ) (allocation : AllocState) (core : State) : Type 0 where
   pub sound : IsSegments s
   pub stands : StandsFor s words allocation

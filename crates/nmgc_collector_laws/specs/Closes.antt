@@ -19,8 +19,7 @@ abbrev pub ClosingComes : Type 0
 ClosingComes = (quota : ℕ) (c : Cycle) (closed kept : ℕ) → 1 ≤ quota → IsSoon quota c closed → Counts (IsKeptObject c) kept →
     closed ≤ c.from + ((kept - 1) / quota + 1)
 
--- the law that a closing isn't too early after a round that left nothing to scan: if nothing was owed, all that the
--- snapshot's roots reach was scanned
+-- the law that a closing after a round that left nothing to scan isn't too early (`IsPaced`)
 abbrev pub ClosingIsPaced : Type 0
 ClosingIsPaced = (quota : ℕ) (c : Cycle) (t : State) (seen : CollectorSeen) (allocation : AllocState) (places : List Place) (core : Core) →
     IsSound (interval_of c) → IsCoreOf c t.world core → IsTied c allocation seen.segments places seen.marker core → c.from + 1 ≤ t.number →

@@ -1,7 +1,6 @@
 -- The heap after a sweep: the places of freed names are gone, and freed names are no longer used.
 --
--- A round or stop with a sweep is first treated as if the segments stayed, with all places from before. Then the freed places
--- go, and segments and words represent the rest.
+-- A round or stop with a sweep is first treated as if the segments stayed, with all places. Then the freed places go.
 use Rattle.std.specs.Prelude.{ℕ, ◌≡◌, ◌≢◌, ◌≤◌, List, [], ◌∷◌, Contains, IsSome, Some}
 use Rattle.nmgc_world_spec.specs.{declared.command.Reply.Reply, declared.node.Node.Node, declared.value.Name.Name, declared.value.Value.TheVariants.Ref, World.World, World.node_of, Step.shared_name, History.Row}
 use Rattle.nmgc_segment.specs.declared.state.State.TheVariants as stands

@@ -39,8 +39,7 @@ HeapRests = (plan : Plan) (s : State) (seen : CollectorSeen) (c : Cycle) (mutato
     IsAtRestMarking c k.core seen.segments h.places s.world seen.words mutators seen.marker.queue ×
     IsReady (opening_beside seen.segments.layout k.core h.places mutators) seen.words seen.segments seen.marker
 
--- a round that began with the heap of a stop, with its results and its mutators' roots. The segments represent the same
--- blocks as before, whichever blocks were marked
+-- a round from the heap of a stop, its results and its mutators' roots. The segments represent the same blocks as before
 pub record IsRoundFrom (layout : Layout) (s t : State) (o : Opening) (before after : List ℕ) (v : View) (old new : Segments)
     (ends later : List MutatorEnd) (weaks : List Place) : Type 0 where
   pub heap : HoldsAtStop layout s before old ends weaks

@@ -25,8 +25,7 @@ pub record HaveMoved (base : ℕ) (moves : List Moved) (old new : List ℕ) : Ty
   pub copied : (m : Moved) (header : Header) → Contains moves m → IsHeader header → slice_index old m.from ≡ header_word header →
       Copies forward old new m.from m.to header.fields
 
--- the list after a promotion: each moved object that is a weak pointer and alive by its words has joined, the old places
--- stay, and the list is in order of names
+-- the list after a promotion, in order of names: the old places, and the new places of weak pointers alive by their words
 pub record HaveJoinedList (words : List ℕ) (moves : List Moved) (old list : List Place) : Type 0 where
   pub ordered : IsInOrder (map (λ (p : Place). p.name) list)
   pub from : (p : Place) → Contains list p → Contains old p ⊎ ((m : Moved) × Contains moves m × (p ≡ new_place m) × IsAliveAt words m.to)

@@ -15,8 +15,7 @@ use Rattle.nmgc_collector_laws.specs.{Rest.hand_of, Rest.IsResting, Worked.regis
 abbrev pub with_rows : Cycle → List Row → Cycle
 with_rows c rows = record c { rows = c.rows ++ rows }
 
--- a machine at rest at a stop: the cycle's rows lead from its snapshot to the world, and nothing is owed. All pushed objects
--- were taken, and no object that waits has been read
+-- a machine at rest at a stop: the cycle's rows lead to the world, nothing is owed or pushed, and no queued object was read
 pub record IsMachineAtRest (c : Cycle) (w : World) (core : Core) : Type 0 where
   pub sound : IsSound (interval_of c)
   pub machine : IsCoreOf c w core

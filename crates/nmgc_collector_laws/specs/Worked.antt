@@ -64,8 +64,7 @@ weaks_of mutators = flat_map (λ (m : Mutator). numbers m.young_weaks.items) mut
 abbrev pub finalised_of : List Mutator → List ℕ
 finalised_of mutators = flat_map (λ (m : Mutator). numbers m.finalised.items) mutators
 
--- `finalised` has the address of each weak pointer in a segment (below the base) that was alive in the world `began` and
--- isn't alive in `w`. It has no address in a nursery
+-- `finalised` has each address below the base of a weak pointer alive in `began` but not in `w`, and no address in a nursery
 pub record ListsFinalised (base : ℕ) (places : List Place) (began w : World) (finalised : List ℕ) : Type 0 where
   pub all : (p : Place) (parts : Parts) → Contains places p → p.at < base → IsAlive began p.name parts → (IsAlive w p.name parts → ⊥) →
       Contains finalised p.at

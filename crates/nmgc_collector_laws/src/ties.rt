@@ -1,17 +1,16 @@
-//! The marker and the closing of a cycle, in the terms of a run.
-//!
-//! Each function's contract is the law. A body only calls the laws that its proof depends on.
+//! The marker and the closing of a cycle, in the terms of a run. Each function's contract is the law.
 ghost use Rattle.nmgc_collector_laws.specs.{Blocks.TiesAgree, CycleCloses.CycleMayResolve, CycleCloses.CycleCloses};
 
-/// Proves that a marker is tied to the marking machine by places exactly if it is tied by blocks, as in a run. The blocks
-/// with names have to be the places. A tied marker has the machine's marks and queue.
+/// Proves that a marker is tied to the marking machine by blocks, as in a run, exactly if the marker has the cycle's epoch
+/// and is tied by places. A tied marker has the machine's marks and queue. Requires that places are blocks (`AreOfBlocks`).
 pub fn ties_agree()
     ensures { TiesAgree }
 {}
 
-/// Proves that the weak pointers may be resolved at a stop of a cycle, if nothing waits to be scanned, is owed or was pushed.
-/// After that the census's dead weak pointers are dead, exactly the kept names in blocks are marked, and the marker has
-/// counted them. So the cycle is closed as a run closes it.
+/// Proves that a closing with weak pointers is a closing of a run. Weak pointers may be resolved at a stop if the marker is
+/// ready, the weak pointers are listed (`ListsWeaks`), and nothing is queued, owed or pushed (`CycleMayResolve`). Once they
+/// are resolved, exactly the cycle's dead weak pointers have died, exactly the kept names in blocks are marked, and the
+/// marker has counted the kept objects. `CycleCloses` has the premises for this.
 pub fn a_cycle_closes()
     ensures may { CycleMayResolve }
     ensures closes { CycleCloses }

@@ -1,12 +1,10 @@
-//! Commands as they lie in a program: 16 bytes each.
+//! Commands as they lie in a program: 16 bytes each. `operands` has the operands of one command, `packed` the command.
 //!
 //! A script is the largest part of a run's memory, and its programs are read once, from front to back. So the number of bytes
 //! of a command matters. A `nmgc_world_spec::Command` takes twenty-four, since its list of operands takes sixteen. Here a few
-//! operands lie in the command itself, and more in memory of their own. Contracts see a packed command as the command that it
-//! represents, and a program as a list of commands: their meaning is in `nmgc_world_spec` alone. `Command` is for
-//! definitions, and for callers of one command at a time: the reference heap, the marking machine, the checker.
-//!
-//! `operands` has the operands of one command, `packed` the command.
+//! operands lie in the command itself, and longer lists in memory of their own. Contracts see a packed command as the command
+//! that it represents, and a program as a list of commands: their meaning is in `nmgc_world_spec` alone. `Command` is for
+//! definitions, and for code with one command at a time: the reference heap, the marking machine, the checker.
 #![tactic(auto)]
 
 pub mod operands;

@@ -2,10 +2,9 @@
 //!
 //! Nearly every constructor and thunk of a script has at most six operands. Six operands of two bytes each and their number
 //! take thirteen bytes and may lie at any address. So they fill a command of sixteen bytes behind its kind, its register and
-//! its tag. The pointer to a vector takes eight bytes, at an address that eight divides, and fits there too.
-//!
-//! Easy to get wrong: the memory in which operands lie is no part of their value. So a vector may have a few operands too,
-//! and contracts don't distinguish these from operands that lie in the command.
+//! its tag. The pointer to a vector takes eight bytes, at an address that eight divides, and fits there too. Easy to get
+//! wrong: the memory in which operands lie is no part of their value. So a vector may have a few operands too, and contracts
+//! don't distinguish these from operands that lie in the command.
 ghost use Rattle.std.specs.Prelude.{◌≡◌, ◌<◌, [], ◌∷◌, ◌++◌, length, IsTrue, IsFalse, IfOk, OnOk, OnErr};
 ghost use Rattle.nmgc_commands.specs.Operands.{held_operands, HasRoom};
 
@@ -66,7 +65,7 @@ impl FixedOperands {
         self.count as usize == FEW_OPERANDS
     }
 
-    // Adds an operand at the end. There has to be room for it.
+    // Adds an operand at the end. Requires that there is room for it.
     fn push(&mut self, operand: Operand)
         requires { length self.old < FEW_OPERANDS }
         ensures { self.new ≡ self.old ++ operand ∷ [] }
@@ -169,7 +168,7 @@ impl Held {
         Ok(())
     }
 
-    // Adds an operand at the end. There has to be room (`HasRoom`). After `NoMemory` the operands are unchanged.
+    // Adds an operand at the end. Requires room for it (`HasRoom`). After `NoMemory` the operands are unchanged.
     fn add(&mut self, operand: Operand) -> Result<(), NoMemory>
         requires { HasRoom self.old }
         ensures ok { OnOk result (held_operands self.new ≡ held_operands self.old ++ operand ∷ []) }
@@ -229,7 +228,7 @@ impl Operands {
         })
     }
 
-    /// Adds an operand at the end. The first `FEW_OPERANDS` take no memory. After `NoMemory` the operands are unchanged.
+    /// Adds an operand at the end. Takes no memory if the command has room. After `NoMemory` the operands are unchanged.
     pub fn push(&mut self, alloc: Global, operand: Operand) -> Result<(), NoMemory>
         ensures ok { OnOk result (self.new ≡ self.old ++ operand ∷ []) }
         ensures err { OnErr result (self.new ≡ self.old) }
@@ -240,7 +239,7 @@ impl Operands {
         self.held.add(operand)
     }
 
-    // Returns the operands as they lie in memory.
+    // Returns the operands as they lie in memory: in the command itself or in a vector.
     pub(crate) fn into_held(self) -> Held
         ensures { self ≡ held_operands result }
     {

@@ -193,7 +193,7 @@ impl Drop for Form {
 }
 
 impl Form {
-    // Returns the number of words of the object that the command makes.
+    // Returns the number of words of the object that the command makes, or 0 if the command makes no object.
     fn words_made(&self) -> usize
         ensures words { result ≡ words_made (command_of self.now) }
         ensures making { 0 < result → IsMaking (command_of self.now) }
@@ -221,6 +221,7 @@ pub struct PackedCommand {
 // The memory that a program takes for each of its commands.
 const _: () = prove!(size_of::<PackedCommand>() == 16);
 
+// Written by hand, as the drop of `Form` is: each drop of a packed command calls this.
 impl Drop for PackedCommand {
     fn drop(self) {
         let PackedCommand { form } = self;
@@ -237,7 +238,7 @@ impl Model for PackedCommand {
     ghost view = { λ p. command_of p.form };
 }
 
-// Makes a packed command of a command, or the reverse, by a match. The caller gives the arms for lists of operands.
+// Converts a command to a form, or a form to a command, by a match. The caller gives the arms for lists of operands.
 macro_rules! convert {
     ($command:ident: $from:ident => $to:ident { $($arms:tt)* }) => {
         match $command {
@@ -278,7 +279,7 @@ macro_rules! convert {
     };
 }
 
-// Copies operands into a list and returns it. Two operands take no memory.
+// Returns a list with a copy of the operands. Two operands take no memory.
 fn list_of(alloc: Global, operands: &[Operand]) -> Result<List<Operand>, NoMemory>
     ensures { IfOk result (λ list. list ≡ operands.now) }
 {
@@ -288,7 +289,7 @@ fn list_of(alloc: Global, operands: &[Operand]) -> Result<List<Operand>, NoMemor
     List::from_vec(Vec::from_slice(alloc, operands)?)
 }
 
-// Copies operands into a packed command's `Operands` and returns them. Two operands take no memory.
+// Returns a copy of the operands for a packed command. Two operands take no memory. Any other number lies in a vector.
 fn operands_of(alloc: Global, operands: &[Operand]) -> Result<Operands, NoMemory>
     ensures { IfOk result (λ own. own ≡ operands.now) }
 {
@@ -379,7 +380,7 @@ impl PackedCommand {
         }
     }
 
-    /// Packs a command and returns it. Takes memory only for a constructor's or thunk's operands, unless there are two.
+    /// Returns a command in packed form. Takes memory only for a `Con` or `Thunk`, if the number of operands isn't two.
     pub fn pack(alloc: Global, command: &Command) -> Result<Self, NoMemory>
         ensures { IfOk result (λ packed. packed ≡ command.now) }
     {
@@ -395,7 +396,7 @@ impl PackedCommand {
         command_in(alloc, &self.form)
     }
 
-    /// Returns the form in which the command lies, to distinguish commands. Takes no memory, and constant time.
+    /// Returns the command's form, on which a caller can match to distinguish commands. Takes no memory, and constant time.
     #[inline]
     pub fn form(&self) -> &Form
         ensures { self.now ≡ command_of result.now }
@@ -403,8 +404,8 @@ impl PackedCommand {
         &self.form
     }
 
-    /// Returns the number of words of the object that the command makes: a header, a name, and a word for each part. It is 0
-    /// exactly if no object is made. A slice and the grammar of scripts count by it. Takes no memory, and constant time.
+    /// Returns the number of words of the object that the command makes: a header, a name, and a word for each part. The
+    /// number is 0 exactly if the command makes no object. Takes no memory, and constant time.
     pub fn words_made(&self) -> usize
         ensures words { result ≡ words_made self.now }
         ensures making { 0 < result → IsMaking self.now }

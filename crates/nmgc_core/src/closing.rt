@@ -19,21 +19,21 @@ use nmgc_graph::{Marks, World};
 use nmgc_lists::{List, NoMemory};
 use nmgc_world_spec::{Name, Node, Value};
 
-/// The marked names, and among them the names whose fields still have to be followed.
+/// The marked names, and a worklist of the marked names whose fields still have to be followed.
 #[derive(Drop)]
 struct Finding {
     marks: Marks,
     work: List<Name>,
 }
 
-/// The marks after a closing, and the weak pointers that die.
+/// The marked names after a closing, and the weak pointers that die, in the order of names.
 #[derive(Drop)]
 pub(crate) struct Closing {
     pub(crate) marks: Marks,
     pub(crate) dead: List<Name>,
 }
 
-/// Returns the marks after a closing, and the weak pointers that die. Changes nothing.
+/// Returns the names that are marked after a closing of this machine, and the weak pointers that die, in the order of names.
 pub(crate) fn find_closing(core: &Core) -> Result<Closing, NoMemory>
     ensures { IfOk result (IsFound core.now) }
 {
@@ -48,7 +48,7 @@ pub(crate) fn find_closing(core: &Core) -> Result<Closing, NoMemory>
     })
 }
 
-// Makes the search as it begins: with the names that were marked before the closing, and nothing to follow.
+// Makes a search with the names that were marked before the closing, and with an empty worklist.
 fn begin_search(core: &Core) -> Result<Finding, NoMemory>
     ensures { IfOk result (IsReviving core.now) }
 {
@@ -57,7 +57,7 @@ fn begin_search(core: &Core) -> Result<Finding, NoMemory>
     Ok(Finding { marks, work })
 }
 
-// Returns the weak pointers that were alive in the snapshot and have not been finalised since, in order.
+// Returns, in order, the weak pointers that were alive in the snapshot and haven't been finalised since.
 fn waiting_weaks(core: &Core) -> Result<List<Name>, NoMemory>
     ensures { IfOk result (Lists (IsWaitingWeak core.now)) }
 {
@@ -74,7 +74,7 @@ fn waiting_weaks(core: &Core) -> Result<List<Name>, NoMemory>
 }
 
 impl Finding {
-    // Marks a name and puts it on the worklist, if it is an unmarked name of the snapshot.
+    // If a name is an unmarked name of the snapshot, marks it and puts it on the worklist.
     fn mark(&mut self, snapshot: &World, name: Name) -> Result<(), NoMemory>
         requires { HasPlaces snapshot.now self.old.marks }
         ensures { OnOk result (Adds snapshot.now self.old self.new (Value.Ref name ∷ [])) }
@@ -86,7 +86,7 @@ impl Finding {
         self.work.push(name)
     }
 
-    // Marks the name that a value refers to, and puts it on the worklist, if it is an unmarked name of the snapshot.
+    // If a value refers to an unmarked name of the snapshot, marks the name and puts it on the worklist.
     fn mark_value(&mut self, snapshot: &World, value: Value) -> Result<(), NoMemory>
         requires { HasPlaces snapshot.now self.old.marks }
         ensures { OnOk result (Adds snapshot.now self.old self.new (value ∷ [])) }
@@ -127,7 +127,7 @@ impl Finding {
         }
     }
 
-    // Takes names off the worklist and marks the targets of their fields, until the worklist is empty.
+    // Until the worklist is empty, takes a name off, and does `mark_fields` for the name's node, if any, in the world now.
     fn follow(&mut self, core: &Core) -> Result<(), NoMemory>
         requires { IsSearch core.now self.old }
         ensures followed { OnOk result (IsFollowed core.now self.old self.new) }
@@ -143,7 +143,7 @@ impl Finding {
         Ok(())
     }
 
-    // Whether a key is nil, a number, or a reference to a marked name.
+    // Whether a key counts as marked: it is nil, a number, or a reference to a marked name.
     fn is_key_marked(&self, value: Value) -> bool
         ensures { result ≡ is_key_marked self.now.marks value }
     {
@@ -153,7 +153,7 @@ impl Finding {
         }
     }
 
-    // If the key of a weak pointer is marked, marks the weak pointer, its value and its finaliser.
+    // If a weak pointer was alive in the snapshot and its key counts as marked, marks the weak pointer, value and finaliser.
     fn mark_weak(&mut self, snapshot: &World, weak: Name) -> Result<(), NoMemory>
         requires { HasPlaces snapshot.now self.old.marks }
         ensures { OnOk result (Adds snapshot.now self.old self.new (values_kept self.old.marks weak (parts_of snapshot.now weak))) }
@@ -167,7 +167,7 @@ impl Finding {
         }
     }
 
-    // In turn, marks each weak pointer whose key is marked, with its value and its finaliser.
+    // In order, marks each weak pointer in `weaks` whose key is marked by then, with its value and its finaliser.
     fn mark_weaks(&mut self, core: &Core, weaks: &[Name]) -> Result<(), NoMemory>
         requires reviving { IsReviving core.now self.old }
         requires waiting { All (IsWaitingWeak core.now) weaks.now }
@@ -179,7 +179,7 @@ impl Finding {
         Ok(())
     }
 
-    // Marks all that weak pointers with marked keys keep: passes over the weak pointers until a pass marks nothing new.
+    // Marks all names that the closing marks first. Passes over `weaks`, which have to wait, until a pass marks nothing new.
     fn revive(&mut self, core: &Core, weaks: &[Name]) -> Result<(), NoMemory>
         requires reviving { IsReviving core.now self.old }
         requires waiting { Lists (IsWaitingWeak core.now) weaks.now }
@@ -193,7 +193,7 @@ impl Finding {
         Ok(())
     }
 
-    // Returns the weak pointers whose keys aren't marked, in order.
+    // Returns, in order, the weak pointers in `weaks` whose keys aren't marked.
     fn dying_weaks(&self, core: &Core, weaks: &[Name]) -> Result<List<Name>, NoMemory>
         requires found { IsFirstFound core.now self.now }
         requires waiting { Lists (IsWaitingWeak core.now) weaks.now }
@@ -202,15 +202,15 @@ impl Finding {
         let snapshot = core.snapshot();
         let mut names = List::new(snapshot.alloc());
         for weak in weaks {
-            if self.is_hidden(snapshot, *weak) {
+            if self.has_unmarked_key(snapshot, *weak) {
                 names.push(*weak)?;
             }
         }
         Ok(names)
     }
 
-    // Whether a weak pointer is alive and its key isn't marked.
-    fn is_hidden(&self, snapshot: &World, weak: Name) -> bool
+    // Whether a weak pointer was alive in the snapshot and its key isn't marked.
+    fn has_unmarked_key(&self, snapshot: &World, weak: Name) -> bool
         ensures { result ≡ is_hidden self.now.marks (parts_of snapshot.now weak) }
     {
         match snapshot.parts(weak) {
@@ -219,7 +219,7 @@ impl Finding {
         }
     }
 
-    // Marks the finalisers of the dying weak pointers, and all that is reachable from them.
+    // Marks the finalisers of the dying weak pointers, and the names of the snapshot that these finalisers reach.
     fn rescue(&mut self, core: &Core, dead: &[Name]) -> Result<(), NoMemory>
         requires found { IsFirstFound core.now self.old }
         requires dying { Lists (IsDying core.now) dead.now }
@@ -229,7 +229,7 @@ impl Finding {
         self.follow(core)
     }
 
-    // Marks the finalisers of those weak pointers that are alive in the snapshot.
+    // Marks the finalisers of those weak pointers in `weaks` that were alive in the snapshot.
     fn mark_finalisers(&mut self, snapshot: &World, weaks: &[Name]) -> Result<(), NoMemory>
         requires { HasPlaces snapshot.now self.old.marks }
         ensures { OnOk result (Adds snapshot.now self.old self.new (finalisers_of snapshot.now weaks.now)) }
@@ -240,7 +240,7 @@ impl Finding {
         Ok(())
     }
 
-    // Marks the finaliser of a weak pointer, if it is alive in the snapshot.
+    // Marks the finaliser of a weak pointer, if the weak pointer was alive in the snapshot.
     fn mark_finaliser(&mut self, snapshot: &World, weak: Name) -> Result<(), NoMemory>
         requires { HasPlaces snapshot.now self.old.marks }
         ensures { OnOk result (Adds snapshot.now self.old self.new (finaliser_in (parts_of snapshot.now weak))) }

@@ -5,23 +5,23 @@
 //! that the collector has not read yet into a field that it has passed. The deletion barrier prevents that: a command that
 //! takes a reference out of a field owes it. The closing waits until all owed names are pushed, taken, marked and scanned.
 //!
-//! Every event keeps all of the following facts together:
+//! Every event except the closing keeps all of the following facts together:
 //!
 //! - A name in a register, queue, owed or pushed list, new object, or strong field of a live object is live in the snapshot
 //!   or new: made since. A mutator gets references only from registers and fields of objects that it holds.
 //! - An object that isn't live has the node that it had in the snapshot, since no mutator can reach it to write.
 //! - For every strong field of the snapshot, its target is marked, owed or pushed, or the field is unchanged and no scan has
-//!   passed it. Then its object isn't marked yet, or the object's scan has still to reach the field. A field goes away only
-//!   by a command that owes its target. A scan passes a field only by reading it, and marks the target then.
+//!   passed it. In that last case the field's object isn't marked yet, or its scan has still to reach the field. A field goes
+//!   away only by a command that owes its target. A scan passes a field only by reading it, and marks the target then.
 //! - A weak pointer of the snapshot that is alive and wasn't finalised has the parts that it had there.
 //! - Every marked name is live, every queued name is marked, and the roots of the snapshot are marked.
-//! - Every name that was opened, and every finalised weak pointer with the names that it kept, is marked, owed or pushed.
-//!
-//! Reading or finalising a weak pointer opens names, and so makes more of the snapshot live. So a fact covers objects that
-//! aren't live yet too: each strong field in the world was in the snapshot, or has a target that the first fact allows.
+//! - Every name of the snapshot that was opened, finalised, or kept by a finalised weak pointer is marked, owed or pushed.
+//! - Each strong field in the world, of any object, was in the snapshot, or its target is live or new as in the first fact.
+//!   Reading or finalising a weak pointer opens names, so objects that aren't live yet can become live.
 //!
 //! If nothing is queued, owed or pushed, no scan is left, and the third fact says that a marked object's targets are marked.
-//! So the marked names are closed under the strong fields of the snapshot and contain its roots: they contain all live names.
+//! So the marked names are closed under the strong fields of the snapshot and contain its roots: they contain all names that
+//! strong fields reach. The end adds the other live names.
 //!
 //! Easy to get wrong: the third fact is about the snapshot's fields, so the old value is owed. A barrier on the new value
 //! would lose a target whose field was overwritten before the scan.
@@ -64,7 +64,7 @@ pub struct Core {
     is_closed: bool,
 }
 
-// Written by hand, so that code that drops a core calls this. A derived drop is written out, and proved, at each place.
+// Written by hand, so that each drop of a core calls this. A derived drop is written out, and proved, at each drop.
 impl Drop for Core {
     fn drop(self) {
         let Core {
@@ -107,21 +107,21 @@ impl Core {
     ghost use Rattle.nmgc_snapshot_laws.specs.{State.names_of, State.opening, State.mark_name, State.mark_value, State.mark_read, State.mark_values, State.is_new, State.unmarked, Run.IsRun, Machine.Passes, Machine.advanced};
     ghost use Rattle.nmgc_snapshot_laws.specs.declared.event.Event.TheVariants as event;
 
-    /// Begins marking: copies the world as the snapshot, and marks its roots. Takes time and memory for each object.
+    /// Begins marking: copies the world as the snapshot, and marks the roots. Takes time and memory for each object.
     pub fn new(world: World) -> Result<Self, NoMemory>
         ensures opening { IfOk result (λ core. core ≡ opening world) }
         ensures closed { IfOk result (λ core. IsWorld core.world) }
     {
         let roots = root_values(&world)?;
-        let mut core = Core::unmarked(world)?;
+        let mut core = Core::make_unmarked(world)?;
         core.mark_values(roots.as_slice())?;
         // Note [Lines that do nothing] in `nmgc_alloc`: this gives the prover that the world is closed, as in every machine.
         let _ = &core.marks;
         Ok(core)
     }
 
-    // Makes the machine of a world in which only g is marked.
-    fn unmarked(world: World) -> Result<Self, NoMemory>
+    // Makes a machine in which only g is marked and nothing is queued. Its snapshot is a copy of its world.
+    fn make_unmarked(world: World) -> Result<Self, NoMemory>
         ensures { IfOk result (λ core. core ≡ unmarked world) }
     {
         let alloc = world.alloc();
@@ -144,7 +144,7 @@ impl Core {
         })
     }
 
-    // Marks and queues the unmarked names of the snapshot to which values refer.
+    // Marks and queues, in order, the unmarked names of the snapshot to which values refer.
     fn mark_values(&mut self, values: &[Value]) -> Result<(), NoMemory>
         ensures { OnOk result (self.new ≡ mark_values self.old values.now) }
     {
@@ -154,8 +154,8 @@ impl Core {
         Ok(())
     }
 
-    // Whether the name is an unmarked name of the snapshot.
-    fn is_new(&self, name: Name) -> bool
+    // Whether a name can be marked: it is an unmarked name of the snapshot.
+    fn can_mark(&self, name: Name) -> bool
         ensures { result ≡ is_new self.now name }
     {
         self.snapshot.node(name).is_some() && !self.marks.contains(name)
@@ -166,7 +166,7 @@ impl Core {
         ensures ok { OnOk result (self.new ≡ mark_name self.old name) }
         ensures err { OnErr result (self.new ≡ self.old) }
     {
-        if !self.is_new(name) {
+        if !self.can_mark(name) {
             return Ok(());
         }
         self.marked.push(name)?;
@@ -179,7 +179,7 @@ impl Core {
         Ok(())
     }
 
-    // Marks and queues the name that a value refers to, if it is an unmarked name of the snapshot.
+    // If a value refers to an unmarked name of the snapshot, marks and queues the name.
     fn mark_value(&mut self, value: Value) -> Result<(), NoMemory>
         ensures ok { OnOk result (self.new ≡ mark_value self.old value) }
         ensures err { OnErr result (self.new ≡ self.old) }
@@ -190,7 +190,7 @@ impl Core {
         }
     }
 
-    // Marks and queues the name that was read, if a value was read that refers to an unmarked name of the snapshot.
+    // If a scan read a value that refers to an unmarked name of the snapshot, marks and queues this name.
     fn mark_read(&mut self, read: Option<Value>) -> Result<(), NoMemory>
         ensures ok { OnOk result (self.new ≡ mark_read self.old read) }
         ensures err { OnErr result (self.new ≡ self.old) }
@@ -201,21 +201,21 @@ impl Core {
         }
     }
 
-    // Moves the first entry of the queue to its next position, or removes it if no position is left.
+    // Moves the queue's first entry, which has to be `entry`, to its next position, or removes it if no position is left.
     fn advance(&mut self, entry: Entry)
         requires { slice_get self.old.queue 0 ≡ Some entry }
         ensures { self.new ≡ advanced self.old self.old.queue }
     {
         match next_entry(&self.world, entry) {
-            Some(next) => self.queue.set_first(next),
+            Some(next) => self.queue.replace_first(next),
             None => {
                 self.queue.take_first();
             }
         }
     }
 
-    // Does a command of a mutator if the world can take it and answers `reply`. Returns whether the command was done.
-    fn command(&mut self, mutator: u8, command: &Command, reply: Reply) -> Result<bool, NoMemory>
+    // If the world can take a mutator's command and gives it this reply, does the command. Returns whether it was done.
+    fn try_apply(&mut self, mutator: u8, command: &Command, reply: Reply) -> Result<bool, NoMemory>
         requires { self.old.is_closed ≡ false }
         ensures done { IfOk result (λ done. Passes self.old (event.Command mutator command.now reply) done self.new) }
         ensures err { OnErr result (self.new ≡ self.old) }
@@ -239,7 +239,8 @@ impl Core {
         Ok(true)
     }
 
-    // Does a command in the world, and adds the names that it owes, opens and finalises.
+    // Does a command in the world, and adds `names` to the mutator's owed list, `opens` to `opened`, and `ends` to
+    // `finalised`. Requires that `ends` are the weak pointers that the command kills (`finalised_by`).
     fn do_command(
         &mut self,
         mutator: u8,
@@ -267,7 +268,8 @@ impl Core {
         Ok(())
     }
 
-    // Does a command in the world, and adds the names that it owes and finalises. The names that it opens were added before.
+    // Does a command in the world, and adds `names` to the mutator's owed list and `ends` to `finalised`. Requires that
+    // `ends` are the weak pointers that the command kills.
     fn do_and_finalise(
         &mut self,
         mutator: u8,
@@ -293,7 +295,8 @@ impl Core {
         Ok(())
     }
 
-    // Does a command in the world, and adds the names that it owes. The names that it opens and finalises were added before.
+    // Does a command in the world, and adds `names` to the mutator's owed list. Requires that each weak pointer that the
+    // command kills is in `finalised`.
     fn do_and_owe(&mut self, mutator: u8, command: &Command, names: &[Name]) -> Result<(), NoMemory>
         requires can { CanApply self.old.world mutator command.now }
         requires ended { (weak : NameAt) → Contains (finalised_by self.old.world mutator command.now) weak → Contains self.old.finalised weak }
@@ -312,7 +315,7 @@ impl Core {
         Ok(())
     }
 
-    // Removes a mutator's first owed name, and pushes it if it is in the snapshot and isn't g. Returns whether there was one.
+    // Removes a mutator's first owed name. Pushes it if it is in the snapshot and isn't g's. Returns whether a name was owed.
     fn push(&mut self, mutator: u8) -> Result<bool, NoMemory>
         requires { self.old.is_closed ≡ false }
         ensures done { IfOk result (λ done. Passes self.old (event.Push mutator) done self.new) }
@@ -330,7 +333,7 @@ impl Core {
         Ok(true)
     }
 
-    // Reads the position of the queue's first entry, marks the name read, and moves on. Returns whether there was an entry.
+    // Reads at the first queued entry, marks the name read, if any, and advances the entry. `false` means an empty queue.
     fn scan(&mut self) -> Result<bool, NoMemory>
         requires { self.old.is_closed ≡ false }
         ensures done { IfOk result (λ done. Passes self.old event.Scan done self.new) }
@@ -345,7 +348,7 @@ impl Core {
         Ok(true)
     }
 
-    // Takes the first name that a mutator pushed, and marks it. Returns whether there was a name.
+    // Takes a mutator's first pushed name, and marks it if it is unmarked and in the snapshot. `false` means an empty list.
     fn take(&mut self, mutator: u8) -> Result<bool, NoMemory>
         requires { self.old.is_closed ≡ false }
         ensures done { IfOk result (λ done. Passes self.old (event.Take mutator) done self.new) }
@@ -359,7 +362,7 @@ impl Core {
         Ok(true)
     }
 
-    // If marking can end, completes the marks, closes the world with the dying weak pointers, and returns true.
+    // If marking can end, completes the marks and closes the world with the dying weak pointers. Returns whether it ended.
     fn close(&mut self) -> Result<bool, NoMemory>
         requires { self.old.is_closed ≡ false }
         ensures done { IfOk result (λ done. Passes self.old event.Close done self.new) }
@@ -379,16 +382,17 @@ impl Core {
         Ok(true)
     }
 
-    // Whether nothing is queued, owed or pushed.
+    // Whether nothing is queued, owed or pushed, so that marking can end.
     fn is_done(&self) -> bool
         ensures { IsTrue result ↔ ((self.now.queue ≡ []) × AreEmpty self.now.owed × AreEmpty self.now.pushed) }
     {
         self.queue.is_empty() && are_empty(self.owed.items()) && are_empty(self.pushed.items())
     }
 
-    /// Does an event exactly if it can happen, and returns whether it happened. After `false` or `NoMemory` nothing has
-    /// changed. Takes constant time for each operand, and each value read or owed. The closing takes time for each object,
-    /// and passes over weak pointers once per link of the longest chain in which a weak pointer revives the key of the next.
+    /// Does an event if it can happen, and returns whether it happened. After `false` or `NoMemory` nothing has changed.
+    /// Takes constant time for each operand, each value of a new object, and each value read or owed. The closing takes time
+    /// for each object. It passes over the weak pointers at most once per link of the longest chain of weak pointers in which
+    /// each revives the key of the next, and once more.
     pub fn step(&mut self, event: &Event) -> Result<bool, NoMemory>
         ensures done { IfOk result (λ done. Passes self.old event.now done self.new) }
         ensures err { OnErr result (self.new ≡ self.old) }
@@ -400,7 +404,7 @@ impl Core {
         done
     }
 
-    // Does an event if it can happen, and returns whether it happened.
+    // Does an event if it can happen, and returns whether it happened. After `false` or `NoMemory` nothing has changed.
     fn try_event(&mut self, event: &Event) -> Result<bool, NoMemory>
         ensures done { IfOk result (λ done. Passes self.old event.now done self.new) }
         ensures err { OnErr result (self.new ≡ self.old) }
@@ -413,7 +417,7 @@ impl Core {
                 mutator,
                 command,
                 answer,
-            } => self.command(*mutator, command, *answer),
+            } => self.try_apply(*mutator, command, *answer),
             Event::Push { mutator } => self.push(*mutator),
             Event::Scan => self.scan(),
             Event::Take { mutator } => self.take(*mutator),
@@ -424,8 +428,8 @@ impl Core {
     /// Begins marking with a world, does each of the events in turn if it can happen, and returns the machine. Its clause is
     /// the snapshot theorem (`IsRun`), for all lists of events and closed worlds. Before the closing, the world is the replay
     /// of the commands that happened, and all marked names are live in the snapshot, if opened names count as roots. The
-    /// closing marks exactly the live names, and then, from the finalisers of dying weak pointers, exactly the kept names.
-    /// Exactly the dead weak pointers die, and the world is the replay closed with them.
+    /// closing completes the marks to exactly the live names, and then, from finalisers of dying weak pointers, to exactly
+    /// the kept names. Exactly the dead weak pointers die, and the world is the replay closed with them.
     pub fn run(world: World, events: &[Event]) -> Result<Self, NoMemory>
         ensures { IfOk result (IsRun world events.now) }
     {
@@ -450,7 +454,7 @@ impl Core {
         &self.snapshot
     }
 
-    /// Whether marking has ended. Takes no memory and constant time.
+    /// Whether marking has ended (`Event::Close`). Takes no memory and constant time.
     pub fn is_closed(&self) -> bool
         ensures { result ≡ self.now.is_closed }
     {
@@ -471,7 +475,7 @@ impl Core {
         self.finalised.items()
     }
 
-    /// Returns the marked names, all of the snapshot: in order of marking until the closing, in order of names after it.
+    /// Returns the marked names, each a name of the snapshot. Until the closing they are in order of marking, then of names.
     pub(crate) fn marked_names(&self) -> &[Name]
         ensures names { result.now ≡ self.now.marked }
         ensures there { (name : NameAt) → Contains self.now.marked name → IsSome (node_of self.now.snapshot name) }
@@ -487,7 +491,7 @@ impl Core {
     }
 }
 
-// Returns the name that a push hands over: the name itself if it is in the snapshot and isn't g, and otherwise no name.
+// Returns a list of only this name, or an empty list if the name isn't in the snapshot or is g's.
 fn name_to_push<'a>(snapshot: &World, name: &'a Name) -> &'a [Name]
     ensures { result.now ≡ (if is_pushed_in snapshot.now name.now then name.now ∷ [] else []) }
 {
@@ -507,12 +511,12 @@ fn list_of_shared(alloc: Global) -> Result<List<Name>, NoMemory>
     Ok(names)
 }
 
-// Returns the set that contains only g's name, with a position for each name of a world.
+// Returns the set that contains only g's name, with a place for exactly the names of this world.
 fn set_of_shared(world: &World) -> Result<Marks, NoMemory>
     ensures places { IfOk result (HasPlaces world.now) }
     ensures marks { IfOk result (λ marks. (name : NameAt) → mark_of marks name ≡ is_listed name (shared_name ∷ [])) }
 {
-    let mut marks = world.no_names()?;
+    let mut marks = world.empty_set()?;
     marks.insert(Name::SHARED);
     Ok(marks)
 }

@@ -1,5 +1,5 @@
 -- The slices of a round: the work of a mutator with its seat, and the state after all slices.
-use Rattle.std.specs.Prelude.{ℕ, ◌≡◌, ◌↔◌, ◌||◌, IsTrue, Bool, false, ◌+◌, ◌*◌, ◌<◌, ◌≤◌, List, [], ◌++◌, length, map, drop, take, min, All, slice_get, slice_index, slice_index_or, Some, vec_capacity}
+use Rattle.std.specs.Prelude.{ℕ, ◌≡◌, ◌||◌, Bool, true, false, ◌+◌, ◌*◌, ◌<◌, ◌≤◌, List, [], ◌++◌, length, map, drop, take, min, All, slice_get, slice_index, slice_index_or, Some, vec_capacity}
 use Rattle.std.specs.{Int.div_ceil, List.zip}
 use Rattle.nmgc_world_spec.specs.{declared.command.Command.Command, declared.command.Reply.Reply, Command.Fits}
 use Rattle.nmgc_alloc.specs.Segments.{IsSegments}
@@ -26,11 +26,8 @@ pub record CanWork (round : Round) (slice : ℕ) (program : List Command) (worke
 -- a mutator did its slice of these commands, and counted a pass of the gate for each command that it tried
 pub record HasWorkedOn (round : Round) (slice : ℕ) (program : List Command) (old new : Worker) : Type 0 where
   pub run : HasRun round (seen old.seat) new.seat old.mutator new.mutator (take new.done program)
-  pub end : SliceEnd
-  pub ended : Ended program slice new.done new.mutator end
-  pub turns : new.mutator.turns ≡ passed old.mutator.turns (tried new.done end)
-  pub asks : IsTrue new.asks ↔ (end ≡ ending.Collect)
-  pub asks_full : IsTrue new.asks_full ↔ (end ≡ ending.Full)
+  pub ended : Ended program slice new.done new.mutator new.end
+  pub turns : new.mutator.turns ≡ passed old.mutator.turns (tried new.done new.end)
   pub most : new.done ≤ slice
 
 -- each worker may do its slice of the commands left
@@ -59,16 +56,24 @@ pub record HaveWorkedFrom (round : Round) (script : Script) (positions : List �
   pub each : (k : ℕ) (d : Worker) → k < length old →
       HasWorkedOn round script.config.slice (left_at script positions (from + k)) (slice_index_or old k d) (slice_index_or new k d)
 
--- whether a worker's slice asks for a cycle, or for a full cycle
+-- whether a slice that ended so asks for a cycle (`is_asking`); whether it asks for a full cycle (`is_asking_full`)
+abbrev pub is_asking : SliceEnd → Bool
+is_asking ending.Collect = true
+is_asking end = false
+
+abbrev pub is_asking_full : SliceEnd → Bool
+is_asking_full ending.Full = true
+is_asking_full end = false
+
 abbrev pub asks_of : Worker → Bool
-asks_of worker = worker.asks
+asks_of worker = is_asking worker.end
 
 abbrev pub asks_full_of : Worker → Bool
-asks_full_of worker = worker.asks_full
+asks_full_of worker = is_asking_full worker.end
 
 -- a worker that did nothing yet: a mutator with its seat
 abbrev pub worker_of : Mutator × RoundSeat → Worker
-worker_of (m, seat) = record { mutator = m; seat = seat; done = 0; asks = false; asks_full = false }
+worker_of (m, seat) = record { mutator = m; seat = seat; done = 0; end = ending.Slice }
 
 -- the mutators with their seats, by their numbers
 abbrev pub workers_of : List Mutator → List RoundSeat → List Worker

@@ -1,12 +1,8 @@
 //! A collector: the beginning of a run, its progress, and its report in the end.
 //!
-//! Its fields are in groups: the heap (`Heap`), the state of its cycles (`CycleState`), and the rows of the report (`Rows`).
-//! Beside them are the mutators, the other ends of their rings, the number of commands answered of each program, and the
-//! answer of the last stop. The memory that the report needs as the run ends is taken at the beginning (`ReportMemory`).
-//!
 //! Most memory that grows with the heap is taken at the beginning (`Collector::new`). The table of words is copied from a
-//! list of the same length. This list is freed at once, and its pages serve later lists. Room that may never be filled is
-//! taken before the list, or this room would lie in those pages. A cycle takes the marker's queue and the sweeper's lists.
+//! list of the same length. This list is freed at once, and its pages, already touched, serve later lists. So room that may
+//! never be filled is taken before it, and gets none of them. A cycle takes the marker's queue and the sweeper's lists.
 //!
 //! The report is made when nothing may fail any more. So it takes over the table of words, without a copy. The final
 //! registers, queues and serials go into a list that is empty until then, with room from the beginning (`IsWellFormed`).
@@ -146,7 +142,7 @@ fn layout_of(script: &Script) -> Layout
     }
 }
 
-// Returns the words of a heap whose only object is g: all words outside g are 0.
+// Returns the words of a heap whose only object is g, with nil in all its slots. All words outside g are 0.
 fn empty_words(alloc: Global, layout: Layout) -> Result<Vec<u64>, NoMemory>
     requires { IsLayout layout }
     ensures heap { IfOk result (λ words. IsEmptyHeap layout words.items) }
@@ -167,7 +163,7 @@ fn empty_words(alloc: Global, layout: Layout) -> Result<Vec<u64>, NoMemory>
     Ok(words)
 }
 
-// Returns the most commands that the first slice of program `number` may have. No clause constrains the answer.
+// Returns the greatest number of commands that the first slice of program `number` may have. No clause constrains the answer.
 fn most_commands(script: &Script, number: u8) -> u32 {
     match script.threads.items().get(usize::from(number)) {
         Some(program) => program.items().len().min(script.config.slice as usize) as u32,
@@ -175,15 +171,15 @@ fn most_commands(script: &Script, number: u8) -> u32 {
     }
 }
 
-// Returns an upper bound of the entries that `commands` commands send, in whole blocks. No clause constrains the answer.
+// Returns an upper bound on the entries that `commands` commands send in whole blocks. No clause constrains the answer.
 fn most_entries(commands: u32) -> u32 {
     commands
         .saturating_mul(MOST_PUSHED)
         .saturating_add(BLOCK_ENTRIES as u32)
 }
 
-// Makes the layout's mutators, which have done nothing yet, in the order of their numbers, and returns them with the other
-// ends of their rings. Mutators and ends have room for the notes and entries of the first slice.
+// Makes the layout's mutators, which have done nothing yet, in the order of their numbers. Returns them with the other ends
+// of their rings. Mutators and ends have room for the notes and entries of the first slice.
 fn new_mutators(
     alloc: Global,
     layout: Layout,
@@ -207,7 +203,7 @@ fn new_mutators(
         mutators.push(mutator)?;
         receivers.push(receiver)?;
     }
-    Ok((mutators, Inbox::new(VecList::of(receivers, place))))
+    Ok((mutators, Inbox::new(VecList::from_vec(receivers, place))))
 }
 
 // Takes memory for `count` words, and gives it back untouched. This changes only the time of the run. The C library returns a
@@ -231,10 +227,9 @@ fn new_words(alloc: Global, layout: Layout) -> Result<Words, NoMemory>
 impl Collector {
     /// Makes the collector of a script's run, as it is before the first stop: it has no rows, and no command was answered.
     /// Each register and each slot of g is nil, every segment is free, the gate wasn't passed, and each mutator's ring is
-    /// empty. Requires that the script is within the limits. Takes memory for the table of words and, until it is made, for a
-    /// list of the same length. Segments with their marks and names take memory, and so does the promotion of full nurseries.
-    /// So do the notes of the first slices, the workers of a round, and a ring of `RING_BLOCKS` blocks for each mutator. A
-    /// cycle takes its memory as it begins.
+    /// empty. Requires a script within the limits. Takes memory for the table of words and, until it is made, for a list of
+    /// the same length. Segments with marks and names take memory, and so does the promotion of full nurseries. So do the
+    /// workers, the notes of first slices, and a ring of `RING_BLOCKS` blocks for each mutator. A cycle takes its own memory.
     pub fn new(alloc: Global, script: &Script) -> Result<Collector, NoMemory>
         requires { IsInLimits script.now }
         ensures fresh { IfOk result (λ collector. IsFresh script.now collector) }
@@ -315,15 +310,15 @@ impl Collector {
         }
     }
 
-    /// Returns the mutators in order. After a round each has the remembered entries that it didn't send. Takes no memory.
+    /// Returns the mutators by number. After a round each has the remembered entries that it didn't send. Takes no memory.
     pub fn mutators(&self) -> &[Mutator]
         ensures { result.now ≡ self.now.mutators.items }
     {
         self.mutators.as_slice()
     }
 
-    /// Returns the entries taken out of the mutators' rings since the last stop. `mutators` and `inbox` are for a caller that
-    /// does rounds and stops itself: the clause `remembered` of `round` uses them. Takes no memory.
+    /// Returns the other ends of the mutators' rings, with the entries taken out of each since the last stop. Like `mutators`
+    /// it serves callers that do rounds and stops: the clause `remembered` of `round` uses both. Takes no memory.
     pub fn inbox(&self) -> &Inbox
         ensures { result.now ≡ self.now.inbox }
     {
@@ -371,14 +366,14 @@ impl Collector {
             cycles,
             words: FinalWords::of_table(words),
             segments,
-            mutators: List::in_place(ends, report.mutators),
+            mutators: List::from_vec_in(ends, report.mutators),
             weaks: weaks.into_names(report.weaks),
             end,
         }
     }
 }
 
-// Returns `ends`, filled with the final registers, queue and serial of each mutator. It has to be empty, with room for them.
+// Returns `ends`, filled with the final registers, queue and serial of each mutator. `ends` has to be empty, with room.
 fn all_ends(mutators: Vec<Mutator>, ends: Vec<MutatorEnd>) -> Vec<MutatorEnd>
     requires empty { ends.items ≡ [] }
     requires room { vec_len mutators ≤ vec_capacity ends }

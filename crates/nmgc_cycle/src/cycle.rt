@@ -1,15 +1,14 @@
 //! The steps of a stop that advance a cycle: adding, closing, end and beginning.
 //!
 //! Note [The steps of a stop] in stop.rt has their order. All that takes memory here may fail, since the words are back from
-//! the round. `nmgc_run_spec`'s `specs/Closing.antt` defines when a cycle may be closed, and the effect of a closing on the
-//! world. `specs/Cycles.antt` defines the calls' effects, in part by the same names, and `specs/Steps.antt` relates the two.
+//! the round. `nmgc_run_spec`'s `specs/Closing.antt` defines when a cycle may be closed, and the closing's effect.
 //!
 //! A mutator's remembered entries are the entries taken out of its ring, then those in the ring, then those in its set. They
-//! go to the marker in this order. Then all three are empty, even if no cycle marks. So at a stop the ends of each ring are
-//! level: all entries sent were received.
+//! go to the marker in this order. Then ring, set and list in the inbox are empty, even if no cycle marks. So at a stop the
+//! ends of each ring are level: all entries sent were received.
 //!
 //! Easy to get wrong: while a cycle marks, the marker gets the remembered entries at each stop, even if the cycle isn't
-//! closed. They can't prevent a closing, which depends only on the marker's work in the last round, and scans their objects.
+//! closed. They can't prevent a closing. It depends only on the marker's work in the last round, and scans their objects.
 ghost use Rattle.std.specs.Prelude.{ℕ, ◌≡◌, ◌↔◌, ◌+◌, ◌*◌, ◌<◌, ◌≤◌, ◌^◌, IfOk, IfSome, IfNone, OnOk, IsSome, IsTrue, Some, length, slice_get};
 ghost use Rattle.nmgc_object.specs.declared.layout.TheConstants.{FIRST_PLACE};
 ghost use Rattle.nmgc_alloc.specs.Segments.{IsSegments};
@@ -33,7 +32,7 @@ use nmgc_world_spec::Name;
 use std::alloc::Global;
 use std::mem;
 
-// Returns the epoch of cycle `number`: 1 and 2 alternate.
+// Returns the epoch of cycle `number`: 2 if the number is even, and otherwise 1.
 fn epoch_of(number: u32) -> u8
     ensures value { result ≡ epoch_by number }
     ensures sound { IsEpoch result }
@@ -41,14 +40,14 @@ fn epoch_of(number: u32) -> u8
     if number % 2 == 0 { 2 } else { 1 }
 }
 
-// Note [Lines that do nothing] in `nmgc_alloc`: shows the prover that segments are sound after the marker or sweeper worked.
+// Shows the prover that segments are sound after the marker or sweeper worked (Note [Lines that do nothing] in `nmgc_alloc`).
 pub(crate) fn segments_are_sound(segments: &Segments)
     ensures { IsSegments segments.now }
 {
     let _ = segments.layout();
 }
 
-// Takes the oldest block out of a mutator's ring, and returns it, or `None` if the ring is empty: its ends are level then.
+// Takes the oldest block out of a mutator's ring and returns it. After `None` the ring is empty, and its ends are level.
 fn take_block(inbox: &mut Inbox, number: u8, mutator: &mut Mutator) -> Option<UpdBlock>
     requires { IsPaired inbox.old number mutator.old.sender }
     ensures rest { mutator.new ≡ record mutator.old { sender = mutator.new.sender } }
@@ -59,7 +58,7 @@ fn take_block(inbox: &mut Inbox, number: u8, mutator: &mut Mutator) -> Option<Up
 }
 
 // Gives a mutator's remembered entries to the marker: the entries taken out of its ring, the entries in the ring, and the
-// entries in its set, in this order. The ring is empty afterwards.
+// entries in its set, in this order. It empties the ring, though no clause says so. The set and the list in the inbox stay.
 fn add_one(
     marker: &mut Marker,
     segments: &mut Segments,
@@ -81,7 +80,7 @@ fn add_one(
     marker.add(segments, mutator.updrem.entries());
 }
 
-// Empties a mutator's set, its ring and its list in the inbox, so that it remembers nothing.
+// Empties a mutator's set, its ring and its list in the inbox, so that the mutator remembers nothing.
 fn forget(inbox: &mut Inbox, number: u8, mutator: &mut Mutator)
     requires { IsPaired inbox.old number mutator.old.sender }
     ensures forgot { HasForgotten mutator.old mutator.new }
@@ -93,7 +92,7 @@ fn forget(inbox: &mut Inbox, number: u8, mutator: &mut Mutator)
     mutator.updrem.clear();
 }
 
-// Gives the remembered entries of all mutators to the marker, one mutator after another, and empties sets, rings and lists.
+// Gives the remembered entries of all mutators to the marker, one mutator after another. Empties their sets, rings and lists.
 fn add_all(
     marker: &mut Marker,
     segments: &mut Segments,
@@ -213,8 +212,8 @@ impl Collector {
         }
     }
 
-    // If a cycle sweeps and no segment waits, ends the cycle: adds its row, and goes idle with the sweeper's counts.
-    pub(crate) fn end(&mut self, stop: u32) -> Result<(), NoMemory>
+    // If a cycle sweeps and no segment waits, ends the cycle: adds its row, and keeps the sweeper's counts of passes.
+    pub(crate) fn try_end(&mut self, stop: u32) -> Result<(), NoMemory>
         ensures { OnOk result (Ends stop self.old.cycle.progress self.old self.new) }
     {
         if !self.is_swept() {
@@ -244,7 +243,7 @@ impl Collector {
     }
 
     // If a cycle is due, begins it.
-    pub(crate) fn begin(&mut self, trigger: u32, stop: u32) -> Result<(), NoMemory>
+    pub(crate) fn try_begin(&mut self, trigger: u32, stop: u32) -> Result<(), NoMemory>
         requires words { IsSome self.old.heap.words }
         requires inside { FIRST_PLACE ≤ length (words_in self.old.heap.words) }
         requires number { self.old.cycle.begun + 1 < 2 ^ 32 }
@@ -272,7 +271,7 @@ impl Collector {
         Ok(())
     }
 
-    // Starts the marking of a cycle, and returns the cycle. The sweeper notes the segments that are to be swept, and the
+    // Prepares the segments, starts a cycle's marking, and returns the cycle. The sweeper notes the waiting segments, and the
     // marker marks the objects that the roots refer to. The mutators' queues get room for the closing's finalisers.
     fn start_marking(&mut self, stop: u32) -> Result<Marking, NoMemory>
         requires words { IsSome self.old.heap.words }
@@ -297,7 +296,7 @@ impl Collector {
         segments_are_sound(&self.heap.segments);
         weaks::reserve_queues(self.mutators.as_mut_slice(), &self.heap.weaks)?;
         marker.turns = self.cycle.turns;
-        // Until the closing the marker counts on: `close` gives its count to the sweeper, whose count isn't read before.
+        // No run reads this count, since `close` sets it again. It makes `StartsMarking` say the same of marker and sweeper.
         sweeper.turns = self.cycle.turns;
         sweeper.upper_turns = self.cycle.upper_turns;
         Ok(Marking {

@@ -1,9 +1,8 @@
 //! A full cycle, done at one stop. The cycle in progress is closed, swept and ended. Then a new cycle that sweeps every
 //! segment in use begins, and is closed, swept and ended too.
 //!
-//! Step 4 of Note [The steps of a stop] in stop.rt says when one is due. After a full cycle, each segment that isn't free has
-//! an object that the cycle kept, so a heap that is still short of segments is full of kept objects. `specs/Full.antt`
-//! defines the effect of its parts, and `specs/FullLaws.antt` relates them to the run.
+//! Step 4 of Note [The steps of a stop] in stop.rt says when a full cycle is due. After it, each segment that isn't free has
+//! an object that the new cycle kept. So a heap that is still short of segments is full of kept objects.
 //!
 //! Easy to get wrong: current and active segments are swept only if they are filed as filled before the cycle begins. And the
 //! cycle in progress is closed whatever its marker's last work answered: the closing scans the rest.
@@ -14,13 +13,13 @@ ghost use Rattle.nmgc_cycle.specs.Full.{is_short_of, IsFullDue, CanCloseNow, Clo
 use crate::Collector;
 use crate::cycle::segments_are_sound;
 use crate::progress::Progress;
-use crate::stop_laws::{a_finish_leads, a_full_cycle_leads};
+use crate::stop_laws::{a_due_cycle_leads, a_finish_leads};
 use nmgc_lists::NoMemory;
 use std::mem;
 use std::thread::Threads;
 
 impl Collector {
-    // Whether the heap is short of segments: commands are left, and fewer segments are free than the reserve.
+    // Whether the heap is short of segments: commands are left (`left`), and fewer segments are free than the reserve.
     fn is_short(&self, left: bool) -> bool
         ensures { result ≡ is_short_of left self.now }
     {
@@ -68,7 +67,7 @@ impl Collector {
         a_finish_leads();
         self.close_now(stop);
         self.sweep_rest(rt);
-        self.end(stop)?;
+        self.try_end(stop)?;
         Ok(())
     }
 
@@ -78,7 +77,7 @@ impl Collector {
         requires number { self.old.cycle.begun + 1 < 2 ^ 32 }
         ensures { OnOk result (HasDoneFull stop self.old self.new) }
     {
-        a_full_cycle_leads();
+        a_due_cycle_leads();
         self.finish_cycle(rt, stop)?;
         self.heap.segments.retire_all();
         self.start(stop)?;
@@ -88,7 +87,7 @@ impl Collector {
         Ok(())
     }
 
-    // If a full cycle is due, does it. Otherwise, if a cycle is due, begins it.
+    // If a full cycle is due, does it. Otherwise, if a cycle is due, begins it. `left` says whether commands are left.
     pub(crate) fn do_due_cycle<R: Threads + Sync>(
         &mut self,
         rt: &R,
@@ -100,12 +99,12 @@ impl Collector {
         requires number { self.old.cycle.begun + 1 < 2 ^ 32 }
         ensures { OnOk result (Proceeds trigger left stop self.old self.new) }
     {
-        a_full_cycle_leads();
+        a_due_cycle_leads();
         if self.is_full_due(left) {
             self.do_full_cycle(rt, stop)?;
             Ok(())
         } else {
-            self.begin(trigger, stop)?;
+            self.try_begin(trigger, stop)?;
             Ok(())
         }
     }

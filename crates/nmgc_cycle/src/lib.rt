@@ -9,17 +9,15 @@
 //! as `nmgc_run_spec` defines runs, and its words, segments, mutators, marker and sweeper represent the last state of this
 //! run. A new collector is the beginning of such a run. A round leads from a stop to the end of a round, with one legal order
 //! of all its commands. A stop leads from there to the next stop of the run, and changes the world only if weak pointers die.
-//! So the report of a run is lawful, whatever the schedule was. `specs/Shown.antt` defines the part of a collector that these
-//! facts see. `specs/Lined.antt` defines the facts that the two ends of each mutator's ring share.
+//! So the report of a run is lawful, whatever the schedule was.
 //!
 //! A cycle begins at a stop, marks in rounds beside the mutators, is closed at a stop, sweeps beside the mutators, and ends
 //! at a stop (`progress`, `cycle`). `specs/Cycles.antt` defines the effect of each of these calls, and `specs/Steps.antt` its
 //! meaning in the run. A full cycle is done at one stop (`full`, `specs/Full.antt`, `specs/FullLaws.antt`). Each stop notes
 //! the names of moved objects for the sweeper (`name_notes`). `nmgc_script`'s `specs/Limits.antt` says which scripts may run.
 //!
-//! Easy to get wrong: in a round its seats have the words, and an error between its start and its end would lose them. So all
-//! that can fail comes before the words are taken, or after they are back. After `NoMemory` no clause describes the
-//! collector, and none of its calls may follow.
+//! Easy to get wrong: in a round the seats have the words, and an error would lose them. So all that can fail comes before
+//! the words are taken, or after they are back. After `NoMemory` no clause describes the collector, and no call may follow.
 #![tactic(auto)]
 
 mod collector;

@@ -18,7 +18,7 @@ pub(crate) fn note_moves(names: &mut NameTable, moves: &[Move])
     }
 }
 
-// Puts the names of a row in order.
+// Puts the lists `had` and `freed` of a cycle's row in order. Requires that neither list has a name twice.
 fn put_row_in_order(row: &mut CycleRow)
     requires { HasNamesOnce row.old }
     ensures { row.new ≡ report_row row.old }
@@ -27,7 +27,8 @@ fn put_row_in_order(row: &mut CycleRow)
     row.freed.put_in_order();
 }
 
-/// Puts each row's names in order. Requires that no list has a name twice. Takes no memory, but time for the spans.
+/// Puts each row's lists of names in order. Requires that no list has a name twice. Takes no memory, but time to sort the
+/// spans.
 pub(crate) fn put_rows_in_order(rows: &mut [CycleRow])
     requires { All HasNamesOnce rows.old }
     ensures { rows.new ≡ map report_row rows.old }

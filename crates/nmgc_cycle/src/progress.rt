@@ -11,10 +11,11 @@ ghost use Rattle.std.specs.Prelude.{◌≡◌, ◌≤◌, length};
 ghost use Rattle.nmgc_updrem.specs.Rings.{HavePolled};
 ghost use Rattle.nmgc_cycle.specs.{Shown.phase_in, Shown.is_marking_in, Cycles.CanHelp, Cycles.HasHelped};
 
+use crate::worker::RoundInputs;
 use nmgc_alloc::Segments;
 use nmgc_journal::Phase;
 use nmgc_mark::{Marker, Work};
-use nmgc_round::{CollectorSeat, Gate, Round};
+use nmgc_round::{CollectorSeat, Gate};
 use nmgc_sweep::{NameTable, Sweeper};
 use nmgc_updrem::Inbox;
 use std::thread::Threads;
@@ -73,8 +74,9 @@ impl Progress {
         }
     }
 
-    /// Whether there is work beside the mutators: an object to scan, or, in a cycle that sweeps, one of `waiting` segments to
-    /// sweep. No clause constrains the answer, since `work` is soon done if nothing is left. Takes no memory.
+    /// Whether the collector has work beside the mutators. A cycle that marks has work if an object waits to be scanned, and
+    /// a cycle that sweeps if the number of segments to sweep, `waiting`, isn't 0. No clause constrains the answer, since
+    /// `work` is soon done if nothing is left. Takes no memory.
     pub fn has_work(&self, waiting: u32) -> bool {
         match self {
             Progress::Idle => false,
@@ -83,34 +85,36 @@ impl Progress {
         }
     }
 
-    /// Does the collector's part of a round, if a cycle is in progress: scans `quota` objects or sweeps `quota` segments,
-    /// fewer only if no more are left. Before each object it polls the ring of each mutator. The marker's answer is kept for
-    /// the stop. Takes no memory, and waits for the gate alone.
+    /// Does the collector's part of a round. If a cycle is in progress, it scans objects or sweeps segments, up to the
+    /// script's quota, and fewer only if no more are left. Before each object it polls the ring of each mutator. The marker's
+    /// answer is kept for the stop. Takes no memory. It waits for the gate, and for a sweep's second thread, which waits for
+    /// the gate alone.
     pub fn work<R: Threads + Sync, G: Gate>(
         &mut self,
-        rt: &R,
-        round: &Round,
+        inputs: &RoundInputs<R, G>,
         seat: &mut CollectorSeat,
         segments: &mut Segments,
         names: &NameTable,
         inbox: &mut Inbox,
-        quota: u32,
-        gate: &G,
     )
-        requires help { CanHelp round.now seat.old segments.old names.now self.old }
+        requires help { CanHelp inputs.now.round.now seat.old segments.old names.now self.old }
         requires inbox { segments.old.layout.mutators ≤ length inbox.old }
-        ensures helped { HasHelped round.now quota seat.old seat.new segments.old segments.new names.now self.old self.new }
+        ensures helped { HasHelped inputs.now.round.now inputs.now.script.now.config.quota seat.old seat.new segments.old segments.new names.now self.old
+            self.new }
         ensures polled { HavePolled inbox.old inbox.new }
     {
+        let quota = inputs.script.config.quota;
         match self {
             Progress::Idle => {}
             Progress::Marking(marking) => {
                 marking.last = marking
                     .marker
-                    .work(round, seat, segments, inbox, quota, gate);
+                    .work(inputs.round, seat, segments, inbox, quota, inputs.gate);
             }
             Progress::Sweeping(sweeping) => {
-                let _ = sweeping.sweeper.work(rt, segments, names, quota, gate);
+                let _ = sweeping
+                    .sweeper
+                    .work(inputs.rt, segments, names, quota, inputs.gate);
             }
         }
     }

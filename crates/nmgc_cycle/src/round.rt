@@ -9,9 +9,8 @@
 //! state of the run that the collector's rows describe. While a cycle marks, it also has the marking machine to which the
 //! marker is tied (`OpensAt`). The round's `marking` is true then, since only then do mutators owe overwritten references.
 //!
-//! Commands, replies and worlds don't depend on the collector: it writes only marks and segments that wait. `HasHelped` and
-//! `DidSlices` describe the collector's cycle after the round, phase by phase. While a cycle marks, only scans add marks.
-//! While it sweeps, a swept segment loses only the names that were freed.
+//! Commands, replies and worlds don't depend on the collector: it writes only marks and segments that wait. While a cycle
+//! marks, only scans add marks. While it sweeps, a swept segment loses only the names that were freed.
 //!
 //! Easy to get wrong: a request for a cycle or a full one lasts until a stop grants it, so a round may only add requests.
 ghost use Rattle.std.specs.Prelude.{ℕ, ◌≡◌, ◌||◌, ◌<◌, ◌≤◌, ◌+◌, ◌^◌, [], ◌∷◌, ◌++◌, true, None, Some, IfOk, OnOk, length, map, min, slice_get, slice_index, slice_index_or};
@@ -29,7 +28,9 @@ ghost use Rattle.nmgc_cycle.specs.Working.{left_at, HaveRoom, HasLists, HaveSlic
 use crate::Collector;
 use crate::cycle::segments_are_sound;
 use crate::round_laws::{a_round_leads, slices_lead};
-use crate::worker::{Worker, seat_all, some_ask_full, some_asks, unseat_all, work_beside};
+use crate::worker::{
+    RoundInputs, Worker, seat_all, some_ask_full, some_asks, unseat_all, work_beside,
+};
 use nmgc_journal::{Replies, RoundRows};
 use nmgc_limits::MAKERS;
 use nmgc_lists::{List, ListMemory, NoMemory};
@@ -54,7 +55,7 @@ struct Lists {
 }
 
 impl Lists {
-    // Returns empty lists with room for `count` seats.
+    // Returns two empty lists, each with room for `count` seats.
     fn new(alloc: Global, count: usize) -> Result<Lists, NoMemory>
         ensures { IfOk result (λ lists. HaveRoom count lists) }
     {
@@ -76,7 +77,7 @@ impl<'a> WitnessFor<(&'a Script, &'a Collector), Opened> for AfterStop {
     ghost wanted = { λ about o. OpensAt about.0.now about.1.now o };
 }
 
-// Returns the opening of the round after the last stop.
+// Returns the opening of the round that follows the last stop. Requires that no round followed that stop yet.
 fn opening_of(script: &Script, collector: &Collector) -> Witness<Opened>
     requires { HasStopped script.now collector.now }
     ensures { OpensAt script.now collector.now result.value }
@@ -93,11 +94,11 @@ impl Collector {
     /// Beside the mutators the collector passes `gate` before each object that it scans and each segment that it sweeps.
     /// While a cycle marks, it scans `quota` objects, or all if there are fewer. The marker then has the marks and queue of
     /// the marking machine after this order and these scans, at the quota's pace. After a closing, it sweeps `quota` segments
-    /// in two halves, or all that wait if there are fewer. In these, only names that the cycle keeps are left. Passes are
+    /// in two halves, or all that wait if there are fewer. Swept segments have only names that the cycle keeps. Passes are
     /// counted through the whole run (`mutator_turns`, `turns`, `upper_turns`). A mutator's count grows by the commands that
-    /// it tried, even if the last waits for room. The collector's grows by objects scanned or segments swept; the upper half
-    /// of a sweep has its own count. A full cycle that a slice asks for is due at the next stop, an ordinary one at the next
-    /// stop without a cycle in progress.
+    /// it tried, even if the last waits for room. The collector's count grows by the objects that it scanned, or by the
+    /// segments swept in the lower half; the upper half has its own count. A full cycle that a slice asks for is due at the
+    /// next stop, an ordinary one at the next stop without a cycle in progress.
     ///
     /// While a cycle marks, mutators send full blocks of remembered entries through their rings, and the collector takes them
     /// out. Afterwards each mutator remembers the entries taken out of its ring, then those in the ring, then those in its
@@ -134,7 +135,7 @@ impl Collector {
         meet_each(&mut self.inbox, self.mutators.as_mut_slice());
     }
 
-    // Does the round, and adds its row of replies. The two ends of each ring meet only afterwards (`meet_all`).
+    // Does what `round` does, except for `meet_all`: only after `meet_all` is the order of the remembered entries known.
     fn do_round<R: Threads + Sync, G: Gate>(
         &mut self,
         rt: &R,
@@ -161,7 +162,7 @@ impl Collector {
         self.rows.rounds.push(rows)
     }
 
-    // Makes room for the mutators' notes in the round.
+    // Makes room in each mutator for the replies and notes of its slice in the round.
     fn make_room(&mut self, script: &Script) -> Result<(), NoMemory>
         requires limits { IsInLimits script.now }
         requires stopped { HasStopped script.now self.old }
@@ -190,8 +191,8 @@ impl Collector {
         reserve_inbox(&mut self.inbox, script, self.positions.as_slice())
     }
 
-    // Does the slices of all mutators, and the collector's part beside them. For the round, the words, the mutators and the
-    // workers' room leave the collector's fields, and come back. These moves take no memory, and nothing here can fail.
+    // Does the slices of all mutators and the collector's part beside them. Meanwhile the words, the mutators and the
+    // workers' room are out of the collector's fields. Moving them takes no memory, and nothing here can fail.
     fn do_slices<R: Threads + Sync, G: Gate>(
         &mut self,
         rt: &R,
@@ -237,11 +238,11 @@ impl Collector {
         advance(self.positions.as_mut_slice(), workers.as_slice());
         let emptied = unseat_all(workers, &mut self.mutators, &mut taken);
         self.workers.give_back(emptied);
-        let Finished { words } = round.finish(List::in_place(taken, taken_memory), collector);
+        let Finished { words } = round.finish(List::from_vec_in(taken, taken_memory), collector);
         self.heap.words = Some(words);
     }
 
-    // Does the workers' slices, with the collector's part beside them, and notes the slices' requests.
+    // Does the workers' slices and the collector's part beside them, and notes the slices' requests for cycles.
     fn run_workers<R: Threads + Sync, G: Gate>(
         &mut self,
         rt: &R,
@@ -267,18 +268,21 @@ impl Collector {
         ensures collect { self.new.cycle.collect ≡ (self.old.cycle.collect || list_any asks_of workers.new) }
         ensures full { self.new.cycle.full ≡ (self.old.cycle.full || list_any asks_full_of workers.new) }
     {
-        work_beside(
+        let inputs = RoundInputs {
             rt,
             round,
+            script,
+            positions: self.positions.as_slice(),
+            gate,
+        };
+        work_beside(
+            &inputs,
             &mut self.cycle.progress,
             seat,
             &mut self.heap.segments,
             &self.heap.names,
             &mut self.inbox,
             workers,
-            script,
-            self.positions.as_slice(),
-            gate,
         );
         segments_are_sound(&self.heap.segments);
         self.cycle.collect = is_still_asked(self.cycle.collect, some_asks(workers));
@@ -286,7 +290,7 @@ impl Collector {
     }
 }
 
-// Looks into a mutator's ring with both of its ends at hand (`Inbox::meet`). No entry moves.
+// Looks into a mutator's ring from both of its ends (`Inbox::meet`), for the reason at `meet_all`. No entry moves.
 fn meet(inbox: &mut Inbox, number: u8, mutator: &mut Mutator)
     requires { IsLined inbox.old number mutator.old.sender }
     ensures mutator { HasMetSender mutator.old mutator.new }
@@ -295,7 +299,7 @@ fn meet(inbox: &mut Inbox, number: u8, mutator: &mut Mutator)
     inbox.meet(number, mutator.sender());
 }
 
-// Looks into each mutator's ring with both of its ends at hand. No entry moves.
+// Looks into each mutator's ring from both of its ends, for the reason at `meet_all`. No entry moves.
 fn meet_each(inbox: &mut Inbox, mutators: &mut [Mutator])
     requires lines { HaveLines inbox.old mutators.old }
     ensures { HaveMet (length mutators.old) inbox.old inbox.new mutators.old mutators.new }
@@ -324,14 +328,14 @@ fn reserve_inbox(inbox: &mut Inbox, script: &Script, positions: &[u32]) -> Resul
     Ok(())
 }
 
-// Whether the next stop finds a request: one that no stop has granted yet, or a new one.
+// Whether the next stop finds a request: one from before the round that no stop has granted, or one that the round made.
 fn is_still_asked(before: bool, in_round: bool) -> bool
     ensures { result ≡ (before || in_round) }
 {
     before || in_round
 }
 
-// Makes room in each mutator for its next slice.
+// Makes room in each mutator for the replies and notes of its next slice.
 fn reserve_all(mutators: &mut [Mutator], script: &Script, positions: &[u32]) -> Result<(), NoMemory>
     requires threads { length script.now.threads ≡ length mutators.old }
     requires positions { length positions.now ≡ length mutators.old }
@@ -372,7 +376,7 @@ fn take_replies(alloc: Global, mutator: &mut Mutator) -> Result<Replies, NoMemor
     Ok(replies)
 }
 
-// Returns the round's row, with the replies in the mutators' lists, and clears these lists.
+// Clears the mutators' lists of replies, and returns the round's row with the replies that were in them.
 fn take_rows(alloc: Global, mutators: &mut [Mutator]) -> Result<RoundRows, NoMemory>
     ensures rows { IfOk result (λ rows. rows.replies ≡ replies_of mutators.old) }
     ensures rest { OnOk result (mutators.new ≡ map cleared mutators.old) }

@@ -8,47 +8,51 @@ use nmgc_collector_laws::idle::{
     finalised_are_listed, slices_are_gathered,
 };
 use nmgc_collector_laws::marking::{
-    a_closed_cycle_sweeps, a_heap_at_rest_opens_a_round as opens_beside, a_heap_ties_by_blocks,
-    freed_places_go, slices_are_owed, the_heap_goes_on, the_machine_goes_on,
-    the_marker_leads_a_cycle, the_pace_is_kept,
+    a_cycle_marks_after_each_call, a_round_begins_with_a_tied_marker,
+    a_round_opens_while_a_cycle_marks, freed_places_can_be_dropped, owed_objects_are_remembered,
+    the_heap_stays_represented, the_machine_follows_a_round, the_pace_is_kept,
+    waiting_segments_stay,
 };
 use nmgc_mutator::laws::a_round_finds_mutators_ready;
 use nmgc_sweep::laws::unswept_segments_wait;
 
-// Proves that a round may begin after a stop, with an opening that has the state of that stop.
+// Proves that a heap at rest opens a round, with or without a marking cycle. At a stop of a marking cycle the heap is at rest
+// if the mutators have nothing left of their round. The cycle's marking machine has the cycle's snapshot.
 fn an_opening_leads()
     ensures { HasOpeningLaws }
 {
     a_heap_at_rest_opens_a_round();
-    opens_beside();
-    the_heap_goes_on();
-    a_heap_ties_by_blocks();
+    a_round_opens_while_a_cycle_marks();
+    the_heap_stays_represented();
+    a_round_begins_with_a_tied_marker();
 }
 
-// Proves all laws that the slices of a round need: mutators and marker may begin, and together the slices are the round's.
+// Proves the laws that a round's slices need (`HasSliceLaws`): the round can open, with mutators ready and a marker tied.
+// After all slices the seats have all parts, and mutators remember the objects owed if they remembered none before.
 pub(crate) fn slices_lead()
     ensures { HasSliceLaws }
 {
     an_opening_leads();
-    a_heap_ties_by_blocks();
+    a_round_begins_with_a_tied_marker();
     a_round_finds_mutators_ready();
     slices_are_gathered();
-    slices_are_owed();
+    owed_objects_are_remembered();
 }
 
-// Proves all laws that a round needs: its opening, and the state to which its slices and the collector's part lead.
+// Proves the laws that a round needs (`HasRoundLaws`): it can open, its commands have one legal order, words and segments
+// represent the state after them, and a stop can follow. The cycle in progress goes on, if there is one.
 pub(crate) fn a_round_leads()
     ensures { HasRoundLaws }
 {
     an_opening_leads();
-    the_heap_goes_on();
+    the_heap_stays_represented();
     a_round_is_a_history();
     a_round_leaves_a_heap_at_a_stop();
     finalised_are_listed();
-    the_machine_goes_on();
-    the_marker_leads_a_cycle();
+    the_machine_follows_a_round();
+    a_cycle_marks_after_each_call();
     the_pace_is_kept();
-    freed_places_go();
-    a_closed_cycle_sweeps();
+    freed_places_can_be_dropped();
+    waiting_segments_stay();
     unswept_segments_wait();
 }

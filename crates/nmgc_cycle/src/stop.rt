@@ -3,8 +3,8 @@
 //! No mutator runs, so words are read and written plainly, and registers, queues and notes change in place. After each step
 //! the collector represents a state of the run at this stop (`specs/Steps.antt`), and together the steps are the run's stop.
 //!
-//! Easy to get wrong: fewer free segments than the reserve end a run only while commands are left, and only if a full cycle
-//! at this stop left so few. Without commands left, the run goes on while a cycle is in progress, since its row is missing.
+//! Easy to get wrong: a lack of free segments ends a run only while commands are left, and only if this stop's full cycle
+//! left fewer than the reserve. Without commands left, a run goes on while a cycle is in progress, since its row is missing.
 //!
 //! # Note [The steps of a stop]
 //!
@@ -17,12 +17,12 @@
 //!    the marker's work in the last round left nothing to scan, the cycle is closed (`close`), even if these entries added
 //!    objects, and sweeps from then on. A closing has four parts: the marker scans to the end, weak pointers are resolved,
 //!    finalisers of those that die are queued, and the marks of segments that aren't to be swept are carried over.
-//! 3. End (`end`). A cycle that sweeps ends if no segment waits, and its row is added.
+//! 3. End (`try_end`). A cycle that sweeps ends if no segment waits, and its row is added.
 //! 4. Full cycle (`do_full_cycle`, by `do_due_cycle`), if it is due (`is_full_due`): it was asked for, or commands are left
 //!    and fewer segments are free than the reserve. The cycle in progress is closed, swept and ended (`finish_cycle`).
 //!    Current and active segments are filed as filled (`retire_all`). A new cycle begins (`start`), and is closed, swept and
 //!    ended too. Requests for a cycle and for a full one are forgotten.
-//! 5. Begin (`begin`, by `do_due_cycle`). If step 4 wasn't done and a cycle is due (`is_due`), it begins (`start`).
+//! 5. Begin (`try_begin`, by `do_due_cycle`). If step 4 wasn't done and a cycle is due (`is_due`), it begins (`start`).
 //! 6. Answer (`stop`). The row gets the numbers of the heap that this stop leaves. The answer is chosen: the run goes on, is
 //!    done, or has a full heap. An end is kept in `answered`.
 ghost use Rattle.std.specs.Prelude.{ℕ, ◌≡◌, ◌↔◌, ◌^◌, ◌<◌, [], ◌∷◌, ◌++◌, IfOk, OnOk, IsSome, IsTrue, length};
@@ -37,11 +37,11 @@ use crate::Collector;
 use crate::name_notes::note_moves;
 use crate::stop_laws::a_stop_leads;
 use crate::worker::is_some_left;
-use nmgc_collector_laws::marking::the_list_is_joined;
+use nmgc_collector_laws::marking::moved_join_the_list;
 use nmgc_journal::{End, Phase, StopRow};
 use nmgc_lists::NoMemory;
 use nmgc_script::Script;
-use nmgc_weak::laws::the_list_is_left;
+use nmgc_weak::laws::weaks_without_value_leave_the_list;
 use std::thread::Threads;
 
 /// The answer of a stop.
@@ -58,7 +58,7 @@ pub enum StopEnd {
 impl Collector {
     /// Does a stop, and returns its answer: promotes objects of the round, advances the cycle, and adds the stop's row.
     ///
-    /// Exactly the objects that the rule names are promoted, and the nurseries are empty afterwards. Exactly the weak
+    /// Exactly the objects named in step 1 of the note are promoted, and the nurseries are empty afterwards. Exactly the weak
     /// pointers finalised in the round leave the list, and those that moved and are alive join it. So the list has exactly
     /// the weak pointers that are alive and have a block. By the rules of a run, a cycle is closed, and a cycle ends with its
     /// census. A full cycle is done exactly if it is due; otherwise a cycle begins exactly if it is due. The stop's row has
@@ -67,8 +67,8 @@ impl Collector {
     /// closing change the world. No command is answered.
     ///
     /// Answers `Done` exactly if no command is left and no cycle is in progress. Answers `HeapFull` exactly if commands are
-    /// left and fewer segments are free than the reserve, even after a full cycle at this stop. If a cycle marks before and
-    /// after the stop, only its marker changed: the answer of the marker's last work is kept, and says that objects were left
+    /// left and fewer segments are free than the reserve, even after a full cycle at this stop. If the same cycle marks
+    /// before and after the stop, only its marker changed. The marker's last answer is kept, and says that objects were left
     /// to scan. A full cycle sweeps in two halves, each in a thread of its own. The gate isn't passed. The mutators' counts
     /// stay, and the collector's are handed on: from a marker to its sweeper, and from a sweeper that ends to the next cycle.
     ///
@@ -97,7 +97,7 @@ impl Collector {
         let promoted = self.promote()?;
         self.add_remembered();
         self.try_close(number);
-        self.end(number)?;
+        self.try_end(number)?;
         let left = self.has_commands_left(script);
         self.do_due_cycle(rt, left, script.config.trigger, number)?;
         let free = self.heap.segments.free_count();
@@ -141,15 +141,16 @@ impl Collector {
         ensures listed { OnOk result (HasListed self.old self.new) }
         ensures many { IfOk result (λ count. count ≡ length self.new.heap.promotion.moves) }
     {
-        the_list_is_left();
-        the_list_is_joined();
+        // Two laws on the list of weak pointers. Then the work.
+        weaks_without_value_leave_the_list();
+        moved_join_the_list();
         self.remove_finalised();
         self.move_promoted();
         self.add_moved()?;
         Ok(self.heap.promotion.moves().len() as u32)
     }
 
-    // Moves the promoted objects into segments, and notes their names. Takes no memory.
+    // Moves the promoted objects into segments, forwards the mutators' words, and notes the moved names. Takes no memory.
     fn move_promoted(&mut self)
         requires words { IsSome self.old.heap.words }
         requires lists { IsFor self.old.heap.segments.layout self.old.heap.promotion }

@@ -6,7 +6,7 @@
 //!
 //! Mutators note the weak pointers that they finalise, so a stop looks at these notes, and not through the list. New weak
 //! pointers join at the end of their maker's row. So a stop takes time for the changes of the round, except when more than
-//! half of a row has left (`Weaks::leave_at`).
+//! half of a row has left (`Weaks::remove_if_dead`).
 //!
 //! Easy to get wrong: after the promotion no fact describes a weak pointer that was finalised in the round, and its words
 //! mean nothing. So these weak pointers leave before the promotion, while contracts still describe the world at the round's
@@ -46,7 +46,7 @@ fn is_alive<W: HeapWords>(words: &mut W, at: Address) -> bool
         && words.load(at.0 as usize + HEADER_WORDS as usize + 1) != 0
 }
 
-// Returns the moved objects that are weak pointers and alive, at their new addresses, in order of names.
+// Returns the moved objects that are weak pointers and alive, at their new addresses, in the order of `moves`.
 fn gather_moved<W: HeapWords>(
     alloc: Global,
     moves: &[Move],
@@ -68,7 +68,7 @@ fn gather_moved<W: HeapWords>(
     Ok(fresh)
 }
 
-// Adds new weak pointers to the list, which has room for them.
+// Adds weak pointers in order of names to the list. Requires that the list has room and none of their names.
 fn join_all(weaks: &mut Weaks, fresh: &[OldWeak])
     requires room { length fresh.now ≤ weaks.old.spare }
     requires ordered { IsInOrder (names_of fresh.now) }
@@ -79,7 +79,7 @@ fn join_all(weaks: &mut Weaks, fresh: &[OldWeak])
     weaks.add_all(fresh);
 }
 
-// Takes the weak pointers at these addresses off the list, if they are dead by now.
+// Takes each weak pointer at one of the addresses `finalised` off the list, if its value word is 0. The deaths stay.
 fn remove_each<W: HeapWords>(weaks: &mut Weaks, words: &mut W, finalised: &[Address])
     requires inside { (at : Place) → Contains finalised.now at → value_place at.0 < length (W.words words.old) }
     requires named { (at : ℕ) → IsNamedAt (W.words words.old) at weaks.old.list }
@@ -88,11 +88,11 @@ fn remove_each<W: HeapWords>(weaks: &mut Weaks, words: &mut W, finalised: &[Addr
     ensures deaths { weaks.new.deaths ≡ weaks.old.deaths }
 {
     for at in finalised {
-        weaks.leave_at(words, *at);
+        weaks.remove_if_dead(words, *at);
     }
 }
 
-// Takes all dead weak pointers off the list: they are among those that the mutators noted as finalised.
+// Takes all dead weak pointers off the list. Requires that the mutators noted each of them as finalised.
 fn remove_noted<W: HeapWords>(weaks: &mut Weaks, words: &mut W, mutators: &[Mutator])
     requires { FinalisedAreListed (W.words words.old) weaks.old.list (finalised_of mutators.now) }
     ensures words { W.words words.new ≡ W.words words.old }
@@ -105,7 +105,7 @@ fn remove_noted<W: HeapWords>(weaks: &mut Weaks, words: &mut W, mutators: &[Muta
 }
 
 impl Collector {
-    // Takes the weak pointers that were finalised, and so are dead by now, off the heap's list.
+    // Takes all dead weak pointers off the heap's list. Requires that the mutators noted each of them as finalised.
     pub(crate) fn remove_finalised(&mut self)
         requires words { IsSome self.old.heap.words }
         requires reported { FinalisedAreListed (words_in self.old.heap.words) self.old.heap.weaks.list (finalised_of self.old.mutators.items) }
@@ -117,7 +117,7 @@ impl Collector {
         remove_noted(&mut self.heap.weaks, words, self.mutators.as_slice());
     }
 
-    // Adds the weak pointers that were promoted and are alive to the heap's list.
+    // Adds the weak pointers that were promoted and are alive to the heap's list, which may have none of their names yet.
     pub(crate) fn add_moved(&mut self) -> Result<(), NoMemory>
         requires words { IsSome self.old.heap.words }
         requires can { CanJoin (words_in self.old.heap.words) self.old.heap.weaks.list self.old.heap.promotion.moves }
@@ -133,18 +133,18 @@ impl Collector {
     }
 }
 
-// Makes room in a mutator's queue for a finaliser of each listed weak pointer that it made.
+// Makes room in a mutator's queue for a finaliser of each listed weak pointer that the mutator made.
 fn reserve_queue(mutator: &mut Mutator, weaks: &Weaks) -> Result<(), NoMemory>
     ensures { OnOk result (HasQueueRoom (count_made_by mutator.old.number weaks.now.list) mutator.old mutator.new) }
 {
     // The count of a heap's weak pointers always fits.
-    let Ok(own) = u32::try_from(weaks.count(mutator.number)) else {
+    let Ok(own) = u32::try_from(weaks.count_bound(mutator.number)) else {
         return Err(NoMemory);
     };
     mutator.queue.reserve(own)
 }
 
-/// Makes room in each mutator's queue for a finaliser of each listed weak pointer that it made.
+/// Makes room in each mutator's queue for a finaliser of each listed weak pointer that the mutator made.
 pub fn reserve_queues(mutators: &mut [Mutator], weaks: &Weaks) -> Result<(), NoMemory>
     ensures { OnOk result (HaveQueueRoom weaks.now.list mutators.old mutators.new) }
 {
@@ -154,7 +154,7 @@ pub fn reserve_queues(mutators: &mut [Mutator], weaks: &Weaks) -> Result<(), NoM
     Ok(())
 }
 
-/// Adds the finalisers of the deaths to the queues of the mutators that made the weak pointers, in place. Takes no memory.
+/// Adds each death's finaliser, unless it is nil, to the queue of the weak pointer's maker. Requires room. Takes no memory.
 pub fn queue_all(deaths: &[Death], mutators: &mut [Mutator])
     requires { HaveRoom deaths.now (queues_in mutators.old) }
     ensures { FinalisersQueued deaths.now mutators.old mutators.new }

@@ -23,9 +23,8 @@ ghost use Rattle.nmgc_cycle.specs.Working.{asks_of, asks_full_of, left_at, CanWo
 
 use crate::progress::Progress;
 use nmgc_alloc::Segments;
-use nmgc_commands::PackedCommand;
 use nmgc_lists::{List, NoMemory};
-use nmgc_mutator::{Mutator, SliceEnd};
+use nmgc_mutator::{Mutator, Slice, SliceEnd};
 use nmgc_round::{CollectorSeat, Gate, MutatorSeat, Round};
 use nmgc_script::Script;
 use nmgc_sweep::NameTable;
@@ -36,30 +35,47 @@ use std::marker::Model;
 use std::thread::Threads;
 use std::{mem, thread};
 
-/// A mutator with its seat in the round, and the number of commands that it did.
+/// The inputs of a round's threads, which leave them unchanged: the round, the script, and each mutator's position in its
+/// program.
+#[derive(Drop)]
+pub struct RoundInputs<'a, R: Threads + Sync, G: Gate> {
+    /// Starts the threads.
+    pub rt: &'a R,
+    pub round: &'a Round,
+    pub script: &'a Script,
+    /// The position of each mutator in its program.
+    pub positions: &'a [u32],
+    pub gate: &'a G,
+}
+
+/// A mutator with its seat in the round, the number of commands that its slice did, and the slice's end.
 #[derive(Drop)]
 pub struct Worker {
     pub mutator: Mutator,
     pub seat: MutatorSeat,
     pub done: u32,
-    /// Whether its slice asks for a cycle.
-    pub asks: bool,
-    /// Whether its slice asks for a full cycle.
-    pub asks_full: bool,
+    /// It has the slice's request, if there is one. Before the slice it is `Slice`.
+    pub end: SliceEnd,
 }
 
 impl Worker {
-    // Does the mutator's slice of `program`, and notes the number of commands that it did and the requests of the slice.
-    fn do_slice<G: Gate>(&mut self, round: &Round, program: &[PackedCommand], slice: u32, gate: &G)
-        requires { CanWork round.now slice program.now self.old }
-        ensures { HasWorkedOn round.now slice program.now self.old self.new }
+    // Does the mutator's slice of the commands left in program `number`, and notes the slice's end and count of commands.
+    fn do_slice<R: Threads + Sync, G: Gate>(&mut self, inputs: &RoundInputs<R, G>, number: usize)
+        requires program { (number < length inputs.now.script.now.threads) × (number < length inputs.now.positions.now) ×
+            (slice_index inputs.now.positions.now number ≤ length (program_of inputs.now.script.now.threads number)) }
+        requires ready { CanWork inputs.now.round.now inputs.now.script.now.config.slice (left_at inputs.now.script.now inputs.now.positions.now number)
+            self.old }
+        ensures { HasWorkedOn inputs.now.round.now inputs.now.script.now.config.slice (left_at inputs.now.script.now inputs.now.positions.now number)
+            self.old self.new }
     {
-        let ended = self
+        let program = inputs.script.threads.items()[number].items();
+        let left = &program[inputs.positions[number] as usize..];
+        let most = inputs.script.config.slice;
+        let Slice { done, end } = self
             .mutator
-            .run_slice(round, &mut self.seat, program, slice, gate);
-        self.done = ended.done;
-        self.asks = ended.end == SliceEnd::Collect;
-        self.asks_full = ended.end == SliceEnd::Full;
+            .run_slice(inputs.round, &mut self.seat, left, most, inputs.gate);
+        self.done = done;
+        self.end = end;
     }
 }
 
@@ -81,7 +97,7 @@ impl Model for WorkerRoom {
 }
 
 impl WorkerRoom {
-    /// Makes the room for `count` workers.
+    /// Takes the room for `count` workers, and returns it.
     pub fn reserve(alloc: Global, count: usize) -> Result<WorkerRoom, NoMemory>
         ensures { IfOk result (λ room. room ≡ count) }
     {
@@ -98,7 +114,7 @@ impl WorkerRoom {
         mem::replace(&mut self.workers, Vec::new(alloc))
     }
 
-    /// Takes the list of workers back, which has to be empty again, with its room.
+    /// Takes the list of workers back, with its room. Requires that the list is empty again.
     pub fn give_back(&mut self, workers: Vec<Worker>)
         requires { workers.items ≡ [] }
         ensures { self.new ≡ vec_capacity workers }
@@ -118,7 +134,7 @@ pub fn is_some_left(script: &Script, positions: &[u32]) -> bool
     )| (*position as usize) < program.items().len())
 }
 
-// Whether the collector's part needs a thread: the collector and some mutator have work. No clause constrains the answer.
+// Whether the collector's part is worth a thread: the collector and some mutator have work. No clause constrains the answer.
 fn is_worth_a_thread(
     progress: &Progress,
     segments: &Segments,
@@ -138,7 +154,7 @@ fn has_commands(script: &Script, positions: &[u32], number: usize) -> bool
     (positions[number] as usize) < program.len()
 }
 
-// Counts the programs with commands left, from number `from` up to `end`, without `end`. No clause constrains the answer.
+// Returns the number of programs with commands left, from program `from` up to `end`, without `end`. No clause constrains it.
 fn count_left(script: &Script, positions: &[u32], from: usize, end: usize) -> usize
     requires { (end ≤ length script.now.threads) × (end ≤ length positions.now) }
 {
@@ -151,8 +167,8 @@ fn count_left(script: &Script, positions: &[u32], from: usize, end: usize) -> us
     count
 }
 
-// Returns the number of the worker with which the second of two parts begins, each with half of the workers that have
-// commands left. Returns `from` if at most one worker has commands left: then there is only one part.
+// Returns the number of the first worker of the second part. The first part has half of the workers with commands left,
+// rounded down. Returns `from`, for a single part, if at most one worker has any. No clause promises equal halves.
 fn middle_of(script: &Script, positions: &[u32], from: usize, end: usize) -> usize
     requires { (end ≤ length script.now.threads) × (end ≤ length positions.now) }
     ensures { from < result → result < end }
@@ -175,73 +191,54 @@ fn middle_of(script: &Script, positions: &[u32], from: usize, end: usize) -> usi
 
 // Does the slices of the workers from number `from` on, one after the other.
 fn work_in_turn<R: Threads + Sync, G: Gate>(
-    rt: &R,
-    round: &Round,
-    script: &Script,
-    positions: &[u32],
-    gate: &G,
+    inputs: &RoundInputs<R, G>,
     from: usize,
     workers: &mut [Worker],
 )
-    requires ready { CanWorkFrom round.now script.now positions.now from workers.old }
+    requires ready { CanWorkFrom inputs.now.round.now inputs.now.script.now inputs.now.positions.now from workers.old }
     requires small { from + length workers.old < 2 ^ 64 }
-    ensures { HaveWorkedFrom round.now script.now positions.now from workers.old workers.new }
+    ensures { HaveWorkedFrom inputs.now.round.now inputs.now.script.now inputs.now.positions.now from workers.old workers.new }
 {
     thread::for_each_mut(
-        rt,
+        inputs.rt,
         workers,
         1,
         &|index, worker: &mut Worker|
-            requires { (from + index < 2 ^ 64) × (from + index < length script.now.threads) × (from + index < length positions.now) ×
-                (slice_index positions.now (from + index) ≤ length (program_of script.now.threads (from + index))) ×
-                CanWork round.now script.now.config.slice (left_at script.now positions.now (from + index)) worker.now }
-            ensures { HasWorkedOn round.entry.now script.entry.now.config.slice (left_at script.entry.now positions.entry.now (from + index))
-                worker.entry.now worker.exit.now }
-        {
-            let number = from + index;
-            let program = script.threads.items()[number].items();
-            let left = &program[positions[number] as usize..];
-            worker.do_slice(round, left, script.config.slice, gate);
-        },
+            requires { (from + index < 2 ^ 64) × (from + index < length inputs.now.script.now.threads) × (from + index < length inputs.now.positions.now) ×
+                (slice_index inputs.now.positions.now (from + index) ≤ length (program_of inputs.now.script.now.threads (from + index))) ×
+                CanWork inputs.now.round.now inputs.now.script.now.config.slice (left_at inputs.now.script.now inputs.now.positions.now (from + index)) worker.now }
+            ensures { HasWorkedOn inputs.entry.now.round.now inputs.entry.now.script.now.config.slice
+                (left_at inputs.entry.now.script.now inputs.entry.now.positions.now (from + index)) worker.entry.now worker.exit.now }
+        { worker.do_slice(inputs, from + index) },
     );
 }
 
-// Does the slices of the workers `from` to `end`, without `end`. Each worker with commands left has its own thread.
-// `cycle(parts)` says that this function and `work_both_parts` call each other, and are proved together.
+// Does the slices of the workers `from` to `end`, without `end`. Each worker with commands left gets its own thread, if
+// possible. `cycle(parts)` says that this function and `work_both_parts` call each other, and are proved together.
 #[cycle(parts)]
 fn work_part<R: Threads + Sync, G: Gate>(
-    rt: &R,
-    round: &Round,
-    script: &Script,
-    positions: &[u32],
-    gate: &G,
+    inputs: &RoundInputs<R, G>,
     from: usize,
     end: usize,
     workers: &mut [Worker],
 )
-    requires ready { CanWorkFrom round.now script.now positions.now from workers.old }
+    requires ready { CanWorkFrom inputs.now.round.now inputs.now.script.now inputs.now.positions.now from workers.old }
     requires all { from + length workers.old ≡ end }
-    ensures { HaveWorkedFrom round.now script.now positions.now from workers.old workers.new }
+    ensures { HaveWorkedFrom inputs.now.round.now inputs.now.script.now inputs.now.positions.now from workers.old workers.new }
 {
-    let middle = middle_of(script, positions, from, end);
+    let middle = middle_of(inputs.script, inputs.positions, from, end);
     if middle <= from {
-        work_in_turn(rt, round, script, positions, gate, from, workers);
+        work_in_turn(inputs, from, workers);
         return;
     }
     let (front, back) = workers.split_at_mut(middle - from);
-    work_both_parts(
-        rt, round, script, positions, gate, from, middle, end, front, back,
-    );
+    work_both_parts(inputs, from, middle, end, front, back);
 }
 
-// Does the slices of two parts of the workers in two threads. The caller's thread does the first part.
+// Does the slices of two parts of the workers, in two threads if possible. The caller's thread does the first part.
 #[cycle(parts)]
 fn work_both_parts<R: Threads + Sync, G: Gate>(
-    rt: &R,
-    round: &Round,
-    script: &Script,
-    positions: &[u32],
-    gate: &G,
+    inputs: &RoundInputs<R, G>,
     from: usize,
     middle: usize,
     end: usize,
@@ -249,107 +246,94 @@ fn work_both_parts<R: Threads + Sync, G: Gate>(
     back: &mut [Worker],
 )
     requires cut { (from < middle) × (middle < end) }
-    requires front { CanWorkFrom round.now script.now positions.now from front.old × (from + length front.old ≡ middle) }
-    requires back { CanWorkFrom round.now script.now positions.now middle back.old × (middle + length back.old ≡ end) }
-    ensures front { HaveWorkedFrom round.now script.now positions.now from front.old front.new }
-    ensures back { HaveWorkedFrom round.now script.now positions.now middle back.old back.new }
+    requires front { CanWorkFrom inputs.now.round.now inputs.now.script.now inputs.now.positions.now from front.old ×
+        (from + length front.old ≡ middle) }
+    requires back { CanWorkFrom inputs.now.round.now inputs.now.script.now inputs.now.positions.now middle back.old × (middle + length back.old ≡ end) }
+    ensures front { HaveWorkedFrom inputs.now.round.now inputs.now.script.now inputs.now.positions.now from front.old front.new }
+    ensures back { HaveWorkedFrom inputs.now.round.now inputs.now.script.now inputs.now.positions.now middle back.old back.new }
 {
     let mut first = ||
-        requires { IsSync R.row × CanWorkFrom round.now script.now positions.now from front.now × (from + length front.now ≡ middle) }
-        ensures { HaveWorkedFrom round.entry.now script.entry.now positions.entry.now from front.entry.now front.exit.now }
-    { work_part(rt, round, script, positions, gate, from, middle, front) };
+        requires { IsSync R.row × CanWorkFrom inputs.now.round.now inputs.now.script.now inputs.now.positions.now from front.now ×
+            (from + length front.now ≡ middle) }
+        ensures { HaveWorkedFrom inputs.entry.now.round.now inputs.entry.now.script.now inputs.entry.now.positions.now from front.entry.now front.exit.now }
+    { work_part(inputs, from, middle, front) };
     let mut second = ||
-        requires { IsSync R.row × CanWorkFrom round.now script.now positions.now middle back.now × (middle + length back.now ≡ end) }
-        ensures { HaveWorkedFrom round.entry.now script.entry.now positions.entry.now middle back.entry.now back.exit.now }
-    { work_part(rt, round, script, positions, gate, middle, end, back) };
-    thread::join_mut(rt, &mut second, &mut first);
+        requires { IsSync R.row × CanWorkFrom inputs.now.round.now inputs.now.script.now inputs.now.positions.now middle back.now ×
+            (middle + length back.now ≡ end) }
+        ensures { HaveWorkedFrom inputs.entry.now.round.now inputs.entry.now.script.now inputs.entry.now.positions.now middle back.entry.now back.exit.now }
+    { work_part(inputs, middle, end, back) };
+    thread::join_mut(inputs.rt, &mut second, &mut first);
 }
 
 /// Does each worker's slice of the rest of its program. Only a worker with commands left has a thread of its own.
-pub fn work_all<R: Threads + Sync, G: Gate>(
-    rt: &R,
-    round: &Round,
-    workers: &mut [Worker],
-    script: &Script,
-    positions: &[u32],
-    gate: &G,
-)
-    requires { CanAllWork round.now script.now positions.now workers.old }
-    ensures { HaveAllWorked round.now script.now positions.now workers.old workers.new }
+pub fn work_all<R: Threads + Sync, G: Gate>(inputs: &RoundInputs<R, G>, workers: &mut [Worker])
+    requires { CanAllWork inputs.now.round.now inputs.now.script.now inputs.now.positions.now workers.old }
+    ensures { HaveAllWorked inputs.now.round.now inputs.now.script.now inputs.now.positions.now workers.old workers.new }
 {
     let count = workers.len();
-    work_part(rt, round, script, positions, gate, 0, count, workers);
+    work_part(inputs, 0, count, workers);
 }
 
 /// Does each worker's slice of the rest of its program, and beside them the collector's part. Only the collector and workers
 /// with commands left have threads. If the collector has nothing to do, or no program has commands left, its part comes
 /// first, without a thread of its own. Even then the upper half of a sweep has one.
 pub fn work_beside<R: Threads + Sync, G: Gate>(
-    rt: &R,
-    round: &Round,
+    inputs: &RoundInputs<R, G>,
     progress: &mut Progress,
     seat: &mut CollectorSeat,
     segments: &mut Segments,
     names: &NameTable,
     inbox: &mut Inbox,
     workers: &mut [Worker],
-    script: &Script,
-    positions: &[u32],
-    gate: &G,
 )
     requires inbox { segments.old.layout.mutators ≤ length inbox.old }
-    requires collector { CanHelp round.now seat.old segments.old names.now progress.old }
-    requires mutators { CanAllWork round.now script.now positions.now workers.old }
-    ensures collector { HasHelped round.now script.now.config.quota seat.old seat.new segments.old segments.new names.now progress.old progress.new }
-    ensures mutators { HaveAllWorked round.now script.now positions.now workers.old workers.new }
+    requires collector { CanHelp inputs.now.round.now seat.old segments.old names.now progress.old }
+    requires mutators { CanAllWork inputs.now.round.now inputs.now.script.now inputs.now.positions.now workers.old }
+    ensures collector { HasHelped inputs.now.round.now inputs.now.script.now.config.quota seat.old seat.new segments.old segments.new names.now
+        progress.old progress.new }
+    ensures mutators { HaveAllWorked inputs.now.round.now inputs.now.script.now inputs.now.positions.now workers.old workers.new }
     ensures polled { HavePolled inbox.old inbox.new }
 {
-    if !is_worth_a_thread(progress, segments, script, positions) {
-        let quota = script.config.quota;
-        progress.work(rt, round, seat, segments, names, inbox, quota, gate);
-        work_all(rt, round, workers, script, positions, gate);
+    if !is_worth_a_thread(progress, segments, inputs.script, inputs.positions) {
+        progress.work(inputs, seat, segments, names, inbox);
+        work_all(inputs, workers);
         return;
     }
     thread::join_mut(
-        rt,
+        inputs.rt,
         &mut ||
-            requires { IsSync R.row × CanHelp round.now seat.now segments.now names.now progress.now × (segments.now.layout.mutators ≤ length inbox.now) }
-            ensures { HasHelped round.entry.now script.entry.now.config.quota seat.entry.now seat.exit.now segments.entry.now segments.exit.now
-                names.entry.now progress.entry.now progress.exit.now × HavePolled inbox.entry.now inbox.exit.now }
-        {
-            progress.work(
-                rt,
-                round,
-                seat,
-                segments,
-                names,
-                inbox,
-                script.config.quota,
-                gate,
-            )
-        },
+            requires { IsSync R.row × CanHelp inputs.now.round.now seat.now segments.now names.now progress.now ×
+                (segments.now.layout.mutators ≤ length inbox.now) }
+            ensures { HasHelped inputs.entry.now.round.now inputs.entry.now.script.now.config.quota seat.entry.now seat.exit.now segments.entry.now
+                segments.exit.now names.entry.now progress.entry.now progress.exit.now × HavePolled inbox.entry.now inbox.exit.now }
+        { progress.work(inputs, seat, segments, names, inbox) },
         &mut ||
-            requires { IsSync R.row × CanAllWork round.now script.now positions.now workers.now }
-            ensures { HaveAllWorked round.entry.now script.entry.now positions.entry.now workers.entry.now workers.exit.now }
-        { work_all(rt, round, workers, script, positions, gate) },
+            requires { IsSync R.row × CanAllWork inputs.now.round.now inputs.now.script.now inputs.now.positions.now workers.now }
+            ensures { HaveAllWorked inputs.entry.now.round.now inputs.entry.now.script.now inputs.entry.now.positions.now workers.entry.now
+                workers.exit.now }
+        { work_all(inputs, workers) },
     );
 }
 
-/// Whether any worker asks for a cycle.
+/// Whether any worker's slice ended with the request for a cycle. A request for a full cycle doesn't count.
 pub fn some_asks(workers: &[Worker]) -> bool
     ensures { result ≡ list_any asks_of workers.now }
 {
-    workers.iter().any(|worker| worker.asks)
+    workers
+        .iter()
+        .any(|worker| matches!(worker.end, SliceEnd::Collect))
 }
 
-/// Whether any worker asks for a full cycle.
+/// Whether any worker's slice ended with the request for a full cycle.
 pub fn some_ask_full(workers: &[Worker]) -> bool
     ensures { result ≡ list_any asks_full_of workers.now }
 {
-    workers.iter().any(|worker| worker.asks_full)
+    workers
+        .iter()
+        .any(|worker| matches!(worker.end, SliceEnd::Full))
 }
 
-/// Moves mutators and seats into the list of workers, which has room. Returns the mutators' list, empty, with its room.
+/// Moves mutators and their seats into an empty list of workers with room. Returns the mutators' list, empty, with its room.
 pub fn seat_all(
     mutators: Vec<Mutator>,
     seats: List<MutatorSeat>,
@@ -371,14 +355,13 @@ pub fn seat_all(
             mutator,
             seat,
             done: 0,
-            asks: false,
-            asks_full: false,
+            end: SliceEnd::Slice,
         });
     }
     left.into_vec()
 }
 
-/// Moves mutators and seats out of the workers into lists, which have room. Returns the workers' list, empty, with its room.
+/// Moves the workers' mutators and seats into two empty lists with room. Returns the workers' list, empty, with its room.
 pub fn unseat_all(
     workers: Vec<Worker>,
     mutators: &mut Vec<Mutator>,
@@ -396,8 +379,7 @@ pub fn unseat_all(
             mutator,
             seat,
             done: _,
-            asks: _,
-            asks_full: _,
+            end: _,
         } = worker;
         mutators.push_reserved(mutator);
         seats.push_reserved(seat);

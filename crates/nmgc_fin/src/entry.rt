@@ -10,8 +10,8 @@ use std::alloc::Global;
 use std::sync::Wait;
 use std::thread::Threads;
 
-/// Runs the program on a command line, and returns the exit number of the process. If the arguments are wrong, nothing is
-/// read. If there is no memory for the arguments, the number is 7, and nothing is read or written. May wait for its workers.
+/// Runs `nmgc_fin` on a command line, and returns the exit number. If the arguments are wrong, nothing is read. If there is
+/// no memory for the arguments, the number is 7 (no clause says why), and nothing is read or written. May wait for workers.
 pub fn program<R: Threads + Wait + Sync, L: CommandLine, S: Source, K: Sink>(
     alloc: Global,
     rt: &R,

@@ -1,9 +1,9 @@
 //! Finaliser workers: one job for each dead weak pointer of a report, each handled once by some worker.
 //!
-//! A report's text is read back into jobs, the jobs are put into a queue, and workers in threads of their own take them until
-//! none is left. Each job is handled exactly once by a fact about the queue: the jobs that its passes took and the jobs left
-//! are together the pushed jobs. No worker waits for another, and the output doesn't depend on which worker handled which
-//! job.
+//! A report's text is read back into jobs, the jobs are put into a queue, and workers, in threads of their own if possible,
+//! take them until none is left. Each worker has a *pass*, the permission to use the queue. Each job is handled exactly once,
+//! by a fact about the queue: the jobs that its passes took and the jobs left are together the pushed jobs. No worker waits
+//! for another, and the output doesn't depend on which worker handled which job.
 //!
 //! - `job`, `text`: a job, and the jobs of a report's text.
 //! - `hand`, `plays`: the knowledge of a pass of the queue, and the rule of the queue.
@@ -11,9 +11,8 @@
 //! - `order`: the handled jobs in order of number, as text.
 //! - `top`, `entry`: the top call, and the whole program except its streams.
 //!
-//! This is the one crate that may wait: the queue's `pop` waits for a thread that is within a push. Easy to get wrong: a
-//! worker that finds no job knows only that none was in the queue at one moment. Only after all passes are joined is it known
-//! that none is left.
+//! This is the one crate that may wait: the queue's `pop` waits for a thread within a push. Easy to get wrong: a worker that
+//! finds no job knows only that none was queued at one moment. Only when all passes are joined is it known that none is left.
 #![tactic(auto)]
 
 pub mod entry;

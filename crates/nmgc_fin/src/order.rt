@@ -1,7 +1,7 @@
 //! The handled jobs in the order of their numbers, and their text.
 //!
-//! Which worker handled a job, and when, depends on the schedule; the text doesn't. Each job has its position by its number,
-//! so nothing is sorted.
+//! Which worker handled a job, and when, depends on the schedule; the text doesn't. A job's position is its number, so
+//! nothing is sorted.
 ghost use Rattle.std.specs.Prelude.{◌≡◌, ◌++◌, All, length, IfOk, OnOk, Contains};
 ghost use Rattle.nmgc_fin.specs.{Handles.joined, Order.AreWithin, Order.AreAlike, Order.IsPlaced, Order.job_line, Order.jobs_text, declared.job.Job.Job as JobOf};
 
@@ -13,9 +13,9 @@ use nmgc_lists::NoMemory;
 use nmgc_world_spec::Name;
 use std::alloc::Global;
 
-/// Returns `count` names, with the name of each handled job at the position of the job's number. Requires that the numbers
-/// are below `count`, and that jobs with the same number have the same weak pointer. Takes memory for the names.
-pub fn in_order(alloc: Global, count: usize, handled: &Handled) -> Result<Vec<Name>, NoMemory>
+/// Returns `count` names. The name of each handled job's weak pointer is at the position of the job's number. Requires that
+/// the numbers are below `count`, and that jobs with the same number have the same weak pointer. Takes memory for the names.
+pub fn names_in_order(alloc: Global, count: usize, handled: &Handled) -> Result<Vec<Name>, NoMemory>
     requires within { AreWithin count (joined handled.now.by) }
     requires alike { AreAlike (joined handled.now.by) }
     ensures count { IfOk result (λ names. length names.items ≡ count) }
@@ -28,7 +28,7 @@ pub fn in_order(alloc: Global, count: usize, handled: &Handled) -> Result<Vec<Na
     Ok(names)
 }
 
-// Puts the name of each job's weak pointer at the position of the job's number. Names of other jobs stay in their positions.
+// Puts the name of each job's weak pointer at the position of the job's number. Names at all other positions stay.
 fn place(names: &mut Vec<Name>, done: &[Job])
     requires within { AreWithin (length names.old.items) done.now }
     requires alike { AreAlike done.now }
@@ -42,7 +42,7 @@ fn place(names: &mut Vec<Name>, done: &[Job])
     }
 }
 
-/// Returns the text that lists jobs in order of number. `names` has the names of their weak pointers in this order.
+/// Returns the text that lists a job for each name of `names`, in order, numbered from 0. Takes memory for the text.
 pub fn handled_text(alloc: Global, names: &[Name]) -> Result<Vec<u8>, NoMemory>
     ensures { IfOk result (λ text. text.items ≡ jobs_text names.now) }
 {
@@ -56,7 +56,7 @@ pub fn handled_text(alloc: Global, names: &[Name]) -> Result<Vec<u8>, NoMemory>
     Ok(out)
 }
 
-// Appends the line of a job.
+// Appends the line of a job: its number and the name of its weak pointer.
 fn push_job(out: &mut Vec<u8>, number: u64, name: Name) -> Result<(), NoMemory>
     ensures { OnOk result (out.new.items ≡ out.old.items ++ job_line number name) }
 {

@@ -1,8 +1,9 @@
 //! All jobs are handled once, by some worker.
 //!
-//! The jobs are pushed before a worker starts. Then each worker takes jobs until it finds none, in a thread of its own if the
-//! system can start it. After all have returned, their passes are joined. The last worker looks for jobs once more with the
-//! pass that has every part now. It finds none, so the jobs taken are all jobs pushed.
+//! The queue's first pass has every part, and gives one part to each worker's pass. Only a pass with every part may push, or
+//! learns that no job is left. All jobs are pushed first. Then each worker takes jobs until it finds none, in a thread of its
+//! own if the system can start it. After all have returned, their passes are joined to the first pass, which has every part
+//! again. With this pass the last worker takes jobs until it finds none. Only then is it known that all jobs were taken.
 ghost use Rattle.std.specs.Prelude.{◌≡◌, ◌+◌, ◌-◌, ◌<◌, ◌≤◌, [], ◌++◌, length, vec_len, vec_capacity, IfOk, OnOk, All};
 ghost use Rattle.std.specs.Thread.{IsSync};
 ghost use Rattle.crossbeam_queue.specs.SegTies.{IsSegPassOf};
@@ -28,11 +29,11 @@ pub struct Handled {
     pub by: List<List<Job>>,
 }
 
-/// Handles the jobs with `workers` workers, from 1 to `MOST_WORKERS`, each job once and in any order. The jobs are numbered
-/// from 0. Before a worker handles a job, it passes `gate` with its own number and the count of its passes, from 1. Returns
-/// after every worker has returned. It may wait while another thread is within a push, and the promise holds if it returns.
-/// No clause claims progress, or that more than one worker handles a job. Takes memory for the jobs in the queue, and for the
-/// same number in the list of each worker. After `NoMemory` some jobs may have been handled.
+/// Handles the jobs with `workers` workers, from 1 to `MOST_WORKERS`, each job once and in any order. Returns each worker's
+/// jobs. Requires that the jobs are numbered from 0. Before a worker handles a job, it passes `gate` with its own number,
+/// from 0, and the count of its passes, from 1. May wait while another thread is within a push, and returns after every
+/// worker has returned. No clause promises a return, a call of `gate`, or that more than one worker handles a job. Takes
+/// memory for the queue, and in each worker's list for all jobs. After `NoMemory` some jobs may have been handled.
 pub fn run_jobs<R: Threads + Wait + Sync, G: Gate>(
     alloc: Global,
     rt: &R,
@@ -51,7 +52,7 @@ pub fn run_jobs<R: Threads + Wait + Sync, G: Gate>(
     handled
 }
 
-// Pushes all jobs, lets the workers handle them, and returns the workers' lists.
+// Pushes all jobs with the queue's first pass, lets the workers handle them, and returns the workers' lists.
 fn handle<R: Threads + Wait + Sync, G: Gate>(
     alloc: Global,
     rt: &R,
@@ -69,12 +70,12 @@ fn handle<R: Threads + Wait + Sync, G: Gate>(
 {
     let mut pass = pass;
     push_all(rt, queue, &mut pass, jobs)?;
-    let mut crew = hired(alloc, queue, &mut pass, workers, jobs)?;
+    let mut crew = hire(alloc, queue, &mut pass, workers, jobs)?;
     work_all(rt, queue, jobs, crew.as_mut_slice(), gate);
-    gathered(alloc, rt, queue, pass, jobs, crew, gate)
+    gather(alloc, rt, queue, pass, jobs, crew, gate)
 }
 
-// Pushes all jobs, in order.
+// Pushes all jobs into the queue, in order. Requires a pass that has every part, and that no job was pushed yet.
 fn push_all<R: Wait>(
     rt: &R,
     queue: &JobQueue,
@@ -94,8 +95,8 @@ fn push_all<R: Wait>(
     Ok(())
 }
 
-// Makes `workers` workers that handled nothing yet, each with a part of the pass and with room for all jobs.
-fn hired(
+// Makes `workers` workers that handled nothing yet, each with one part of the pass, and with room for all jobs in its list.
+fn hire(
     alloc: Global,
     queue: &JobQueue,
     pass: &mut JobPass,
@@ -122,7 +123,7 @@ fn hired(
     Ok(crew)
 }
 
-// Lets each worker take jobs until it finds none, in a thread of its own.
+// Lets each worker take jobs until it finds none, in a thread of its own if the system can start it.
 fn work_all<R: Threads + Wait + Sync, G: Gate>(
     rt: &R,
     queue: &JobQueue,
@@ -146,7 +147,7 @@ fn work_all<R: Threads + Wait + Sync, G: Gate>(
     );
 }
 
-// Lets one worker take and handle jobs until it finds none. Only the contract uses `jobs`, all jobs that were pushed.
+// Lets one worker take and handle jobs until it finds none. Only the contract uses `jobs`, which are all pushed jobs.
 fn work_one<R: Wait, G: Gate>(
     rt: &R,
     queue: &JobQueue,
@@ -162,8 +163,8 @@ fn work_one<R: Wait, G: Gate>(
     worker.work(rt, queue, number, gate);
 }
 
-// Joins the passes, lets the last worker look for jobs once more, and returns the workers' lists.
-fn gathered<R: Wait, G: Gate>(
+// Joins all passes to `pass`, lets the last worker look for jobs with `pass` once more, and returns the workers' lists.
+fn gather<R: Wait, G: Gate>(
     alloc: Global,
     rt: &R,
     queue: &JobQueue,
@@ -203,7 +204,7 @@ fn gathered<R: Wait, G: Gate>(
     Ok(Handled { by })
 }
 
-// Joins the workers' passes to the pass, and collects their lists.
+// Joins the workers' passes to `pass`, and returns the workers' lists. Only the contract uses `jobs`, which are all pushed.
 fn join_all(
     alloc: Global,
     queue: &JobQueue,

@@ -9,7 +9,7 @@ ghost use Rattle.nmgc_fin.specs.{Handles.AreNumbered, Handles.Handles, declared.
 ghost use Rattle.nmgc_fin.specs.Program.{IsCount, Asks, IsWrong, number_of, IsFixed, fixed_text, bad_text, IsMadeOf, AreDone, SaysOfBytes, Says, IsWritten, IsComplete};
 
 use crate::job::Job;
-use crate::order::{handled_text, in_order};
+use crate::order::{handled_text, names_in_order};
 use crate::run::{Handled, MOST_WORKERS, run_jobs};
 use crate::text::{JobsFault, jobs};
 use nmgc_arguments::{Text, write_output};
@@ -58,17 +58,18 @@ impl FinStatus {
     }
 }
 
-// The output.
+// The output of the program: its status and its text.
 #[derive(Drop)]
 struct Output {
     status: FinStatus,
     text: Text,
 }
 
-/// Reads a report from the source to its end, and handles a job for each dead weak pointer of the report, each once.
-/// `arguments` has the number of workers. Then it writes the handled jobs in order of number, and returns the status. If
-/// something prevents this, it writes the text of the first refusal. A report within the limit and without a bad line is
-/// handled if there is no fault and enough memory. May wait for its workers.
+/// Reads a report from the source to its end, handles the job of each dead weak pointer once, and writes the handled jobs in
+/// order of number. `arguments` is the number of workers. Returns the status. If something prevents the handling, writes the
+/// text of the first refusal. If the sink fails, it has a prefix of the text. Suppose that the arguments are right, that the
+/// bytes of the source are known, within the limit and without a bad line, and that no fault occurs. Then the status is
+/// `Done` or `NoMemory`. No clause says when memory runs out. May wait for workers.
 pub fn nmgc_fin<R: Threads + Wait + Sync, S: Source, K: Sink>(
     alloc: Global,
     rt: &R,
@@ -82,7 +83,8 @@ pub fn nmgc_fin<R: Threads + Wait + Sync, S: Source, K: Sink>(
         × IsWritten (K.taken sink.old) (K.taken sink.new) (Rose (K.faults sink.old) (K.faults sink.new)) reported text result }
     // If the arguments are wrong, nothing is read.
     ensures unread { IsWrong (map string_bytes arguments.now) → source.new ≡ source.old }
-    // The jobs of a report within the limit are handled, unless there is a fault or memory runs out.
+    // If the arguments are right, the bytes are known, within the limit and without a bad line, and no fault occurs, the
+    // status is `Done` or `NoMemory`.
     ensures complete { IsComplete (map string_bytes arguments.now) (S.left source.old) (Rose (S.faults source.old) (S.faults source.new))
         (Rose (K.faults sink.old) (K.faults sink.new)) result }
 {
@@ -90,7 +92,7 @@ pub fn nmgc_fin<R: Threads + Wait + Sync, S: Source, K: Sink>(
     write_output(sink, status, FinStatus::WriteFault, text.bytes())
 }
 
-// Returns the output for the arguments and the bytes of the source.
+// Reads a report, handles its jobs, and returns the output, also for a refusal. If the arguments are wrong, nothing is read.
 fn output_of<R: Threads + Wait + Sync, S: Source>(
     alloc: Global,
     rt: &R,
@@ -112,7 +114,7 @@ fn output_of<R: Threads + Wait + Sync, S: Source>(
     }
 }
 
-// Returns the output for a report's bytes.
+// Handles the jobs of a report with `workers` workers, and returns the output. If a line is bad, handles no job.
 fn output_of_bytes<R: Threads + Wait + Sync>(
     alloc: Global,
     rt: &R,
@@ -143,7 +145,7 @@ fn output_with(status: FinStatus, text: Result<Vec<u8>, NoMemory>) -> Output
     }
 }
 
-// Handles the jobs, and returns the text that lists the handled jobs.
+// Handles the jobs with `workers` workers, and returns the text that lists all jobs in order of number.
 fn done_text<R: Threads + Wait + Sync>(
     alloc: Global,
     rt: &R,
@@ -155,16 +157,16 @@ fn done_text<R: Threads + Wait + Sync>(
     ensures { IfOk result (λ text. AreDone workers jobs.now text.items) }
 {
     let handled = run_jobs(alloc, rt, jobs, workers, &OpenGate)?;
-    text_of(alloc, jobs, &handled)
+    text_of_handled(alloc, jobs, &handled)
 }
 
-// Returns the text that lists the handled jobs, which are all jobs. It uses only the length of `jobs`.
-fn text_of(alloc: Global, jobs: &[Job], handled: &Handled) -> Result<Vec<u8>, NoMemory>
+// Returns the text that lists the handled jobs, which are exactly `jobs`, in order of number. Uses only the length of `jobs`.
+fn text_of_handled(alloc: Global, jobs: &[Job], handled: &Handled) -> Result<Vec<u8>, NoMemory>
     requires numbered { AreNumbered jobs.now }
     requires handled { Handles jobs.now handled.now.by }
     ensures { IfOk result (λ text. AreDone (length handled.now.by) jobs.now text.items) }
 {
-    let names = in_order(alloc, jobs.len(), handled)?;
+    let names = names_in_order(alloc, jobs.len(), handled)?;
     handled_text(alloc, names.as_slice())
 }
 
@@ -179,7 +181,7 @@ fn workers_of(arguments: &[String]) -> Option<u8>
     }
 }
 
-// Returns the number of workers that an argument spells, or `None` if it spells no number from 1 to `MOST_WORKERS`.
+// Returns the number of workers that an argument spells, or `None` exactly if it spells no number from 1 to `MOST_WORKERS`.
 fn workers_in(argument: &[u8]) -> Option<u8>
     ensures found { IfSome result (λ workers. (argument.now ≡ decimal workers) × IsCount workers) }
     ensures none { IfNone result ((workers : ℕ) → IsCount workers → argument.now ≡ decimal workers → ⊥) }
@@ -191,7 +193,7 @@ fn workers_in(argument: &[u8]) -> Option<u8>
     Some(number as u8)
 }
 
-// Returns the output with a status and the status's fixed text. Takes no memory.
+// Returns the output with a status and its fixed text. Requires a status with a fixed text. Takes no memory.
 fn fixed_output(status: FinStatus) -> Output
     requires { IsFixed status }
     ensures { (result.status ≡ status) × (text_bytes result.text ≡ fixed_text status) }
@@ -209,7 +211,7 @@ fn fixed_output(status: FinStatus) -> Output
     }
 }
 
-// Returns the text that reports the first bad line, counted from 1.
+// Returns the text that reports `line`, the number of the first bad line.
 fn bad_text(alloc: Global, line: u32) -> Result<Vec<u8>, NoMemory>
     ensures { IfOk result (λ text. text.items ≡ bad_text line) }
 {

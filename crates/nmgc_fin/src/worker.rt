@@ -19,7 +19,7 @@ use std::sync::Wait;
 /// The queue of jobs.
 pub type JobQueue = RuledSegQueue<Job, Hand, Rules>;
 
-/// The right to use the queue. Its knowledge exists only in proofs.
+/// The permission to use the queue. Its knowledge exists only in proofs.
 pub type JobPass = SegPass<Job, Hand>;
 
 /// A worker: its pass, the jobs that it handled, and the number of its passes of the gate.
@@ -31,7 +31,8 @@ pub struct Worker {
 }
 
 impl Worker {
-    /// Takes jobs until it finds none. For each job it passes the gate, and puts the job into its list. Takes no memory.
+    /// Takes jobs until none is found. For each job it passes `gate` and then puts the job into the worker's list. Requires
+    /// `CanWork`. If the worker's pass has every part, the pass has taken all pushed jobs then. Takes no memory.
     pub fn work<R: Wait, G: Gate>(&mut self, rt: &R, queue: &JobQueue, number: u8, gate: &G)
         requires { CanWork queue.now self.old }
         ensures { HasWorked queue.now self.old self.new }

@@ -1,6 +1,6 @@
-//! Jobs of small texts, and two workers that wait for each other at a gate of the test.
+//! Tests of jobs, of single failed reads and writes, and of two workers that wait for each other at a gate.
 //!
-//! The gate gives up after many passes of its spin, and records it. So workers on one thread fail the test and don't hang.
+//! The gate gives up after many turns of its loop, and records it. So workers on one thread fail the test and don't hang.
 ghost use Rattle.std.specs.Prelude.{IfOk, ◌≡◌, length};
 ghost use Rattle.nmgc_fin.specs.Handles.{AreNumbered};
 
@@ -18,7 +18,7 @@ use std::test::Fail;
 use std::thread::Threads;
 
 #[test]
-fn dead_lines_give_jobs(rt: HostRuntime) -> Result<(), Fail> {
+fn lines_of_dead_weak_pointers_give_jobs(rt: HostRuntime) -> Result<(), Fail> {
     let text = b"report 1\n0 dead\ndead 0.4\ndeadly\n\ndead g\ndead 7.4294967295".as_slice();
     let Ok(found) = jobs(rt.alloc(), text) else {
         panic!(rt; "no jobs");
@@ -39,15 +39,15 @@ const TWO: &str = "report 1\n0 dead\ndead 0.4\ndead g\nend done\n";
 
 const TWO_JOBS: &str = "jobs 2\njob 0 0.4\njob 1 g\nend\n";
 
-// Returns the list of one number of a call.
+// Returns a list of one number: the number of the call that fails, or 0 if none fails.
 fn one_call(alloc: Global, call: u64) -> Result<Vec<u64>, AllocError> {
     let mut calls = Vec::new(alloc);
     calls.push(call)?;
     Ok(calls)
 }
 
-// Runs three workers on `TWO`, in pieces of 5 bytes, and returns the status and the sink's bytes. The read and the write with
-// these numbers fail; no call has number 0.
+// Runs `nmgc_fin` with three workers on `TWO`, in pieces of 5 bytes, and returns the status and the sink's bytes. The read
+// with number `read` and the write with number `write` fail. No call has number 0, so 0 means that none fails.
 fn run_with_faults<R: Threads + Wait + Sync>(
     alloc: Global,
     rt: &R,
@@ -74,7 +74,7 @@ fn check_reads<R: Threads + Wait + Sync + Abort>(rt: &R, alloc: Global) -> Resul
     Ok(())
 }
 
-// Checks that each write can fail alone: the status is `WriteFault`, and the sink has exactly the bytes written before it.
+// Checks that each single failed write gives `WriteFault`, and that the sink has exactly the bytes of the writes before.
 fn check_writes<R: Threads + Wait + Sync + Abort>(rt: &R, alloc: Global) -> Result<(), Fail> {
     let all = TWO_JOBS.as_bytes();
     for write in 1..7 {
@@ -87,7 +87,7 @@ fn check_writes<R: Threads + Wait + Sync + Abort>(rt: &R, alloc: Global) -> Resu
 }
 
 #[test]
-fn each_read_and_each_write_fails(rt: HostRuntime) -> Result<(), Fail> {
+fn failed_reads_and_writes_are_reported(rt: HostRuntime) -> Result<(), Fail> {
     assert!(rt; TWO.len().div_ceil(5) == 9 && TWO_JOBS.len().div_ceil(5) == 6);
     check_reads(&rt, rt.alloc())?;
     check_writes(&rt, rt.alloc())?;
@@ -98,7 +98,7 @@ fn each_read_and_each_write_fails(rt: HostRuntime) -> Result<(), Fail> {
 }
 
 #[test]
-fn names_have_their_lines(rt: HostRuntime) -> Result<(), Fail> {
+fn handled_text_lists_each_name(rt: HostRuntime) -> Result<(), Fail> {
     let names = [
         Name {
             maker: 0,
@@ -153,7 +153,7 @@ fn each_job_is_handled_once(rt: HostRuntime) -> Result<(), Fail> {
     Ok(())
 }
 
-// A gate at which the first job of each of two workers waits for the other worker's first job.
+// A gate for two workers. Each waits there with its first job until the other has reached it too, but gives up in the end.
 #[derive(Drop)]
 struct Meet {
     reached: [AtomicU64; 2],
@@ -161,7 +161,7 @@ struct Meet {
 }
 
 impl Meet {
-    // Whether both workers reached the gate, and neither gave up.
+    // Whether both workers reached the gate, and neither gave up waiting.
     fn has_met(&self) -> bool {
         self.reached[0].load(Ordering::SeqCst) >= 1
             && self.reached[1].load(Ordering::SeqCst) >= 1

@@ -51,11 +51,7 @@ module _ (w : World) (weaks : List Name) where
   none_filed waiting empty counts none = record {
     counted = ap length empty;
     places = λ name there. rw (counts name.maker) (name_counted w name there);
-    bounds = λ name. rw (none name) (record {
-      within = omega arith;
-      below = λ k lt e. lt;
-      last = λ k e. absurd (omega arith);
-    });
+    bounds = λ name. rw (none name) (record { within = omega arith; below = λ k lt e. lt; last = λ k e. absurd (omega arith) });
     before = λ k name lt e. absurd (omega arith);
   }
 

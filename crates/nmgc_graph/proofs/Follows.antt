@@ -26,10 +26,7 @@ node_placed w marks places node is = are_placed w marks places (strong_fields no
 
 -- places stay when names are marked
 pub places_stay : (w : World) (s t : Search) (values : List Value) → Marks s t values → HasPlaces w s.marks → HasPlaces w t.marks
-places_stay w s t values m h = record {
-  makers = m.makers ∙ h.makers;
-  counts = λ maker. m.places maker ∙ h.counts maker;
-}
+places_stay w s t values m h = record { makers = m.makers ∙ h.makers; counts = λ maker. m.places maker ∙ h.counts maker }
 
 -- marking names keeps the invariant of a search
 pub search_stays : (w : World) (s t : Search) (values : List Value) → Marks s t values → IsSearch w s → IsSearch w t
@@ -46,12 +43,7 @@ search_stays w s t values m h = record {
 }
 
 pub follow_none : (w : World) (s : Search) → IsSearch w s → IsFollowed w s s
-follow_none w s h = record {
-  search = h;
-  kept = λ n m. m;
-  sound = λ n m. IsReached.start n m;
-  fewer = omega arith;
-}
+follow_none w s h = record { search = h; kept = λ n m. m; sound = λ n m. IsReached.start n m; fewer = omega arith }
 
 -- one name comes off the worklist of a search, and values are marked
 module _ (w : World) (s : Search) (rest : List Name) (name : Name) (off : s.work ≡ rest ++ name ∷ []) (is : IsSearch w s) where

@@ -208,8 +208,4 @@ module _ (w : World) (h : IsWorld w) (extra finalised : List Name) (s : Search) 
     ]
 
     pub kept_found : IsKeptFound w extra finalised t
-    kept_found = record {
-      places = d.search.places;
-      sound = λ n m. reached_kept n (d.sound n m);
-      complete = kept_marked;
-    }
+    kept_found = record { places = d.search.places; sound = λ n m. reached_kept n (d.sound n m); complete = kept_marked }

@@ -119,10 +119,7 @@ module _ (w : World) (h : IsWorld w) (name : Name) (c : Change) (there : IsSome 
     answer_by (Err f) is answers = tt
 
     pub nth_answers : IfOk r (λ a. ◌≡◌ {A = World × Reply} (change_node w name (node_of w name) c) (
-      record {
-        shared = w.shared;
-        mutators = refill (length w.mutators) w.mutators (set ys name.maker new);
-      },
+      record { shared = w.shared; mutators = refill (length w.mutators) w.mutators (set ys name.maker new) },
       a,
     ))
     unfolding whole

@@ -1,11 +1,11 @@
 //! The effect of a command on the one object that it names.
 //!
-//! `set`, `cas`, `update`, `push`, `pop` and `finalise` differ in the object they want and in their writes. They agree in all
-//! else: the object is looked up, refused by its kind, changed in place, and a reply is given. So the world lends the object
-//! once, and the change is made here, on the node alone, in two halves. `change_reply` only reads: it gives the reply, which
-//! says whether the change is done. If it is, `write` makes the change, and refuses nothing. `World::apply` uses both halves,
-//! and `World::reply` the first alone, so the two can't differ. The readers for `get`, `force` and `deref` are here too,
-//! since they refuse by kind in the same way.
+//! `set`, `cas`, `update`, `push`, `pop` and `finalise` differ in the object that they want and in their writes. All else is
+//! the same: the object is looked up, refused by its kind, changed in place, and a reply is given. So the world lends the
+//! object once, and the change is made here, on the node alone, in two halves. `change_reply` only reads: it gives the reply,
+//! which says whether the change is done. If it is, `write` makes the change, and refuses nothing. `World::apply` uses both
+//! halves, and `World::reply` the first alone, so the two can't differ. The readers for `get`, `force` and `deref` are here
+//! too, since they refuse by kind in the same way.
 //!
 //! Easy to get wrong: `write` doesn't check for refusals again, and writes a variable's field at any index. So it may be
 //! called only if the reply says that the change is done.
@@ -23,7 +23,7 @@ pub fn read_field(node: &Node, index: u32) -> Reply
 {
     match node {
         Node::Con { tag: _, values: _ } | Node::Var { value: _ } | Node::Arr { values: _ } => {
-            given_or(Reply::NoField, node.field(index as usize))
+            value_reply(Reply::NoField, node.field(index as usize))
         }
         _ => Reply::WrongKind,
     }
@@ -34,7 +34,7 @@ pub fn read_result(node: &Node) -> Reply
     ensures { result ≡ result_read node.now }
 {
     match node {
-        Node::Thunk { free: _, result } => given_or(Reply::Nothing, *result),
+        Node::Thunk { free: _, result } => value_reply(Reply::Nothing, *result),
         _ => Reply::WrongKind,
     }
 }
@@ -51,8 +51,8 @@ pub fn read_value(node: &Node) -> Reply
     }
 }
 
-/// Returns the reply that gives the value, or `refusal` if there is no value. Takes no memory.
-pub fn given_or(refusal: Reply, value: Option<Value>) -> Reply
+/// Returns the reply that gives the value, and `refusal` if there is no value. Takes no memory.
+pub fn value_reply(refusal: Reply, value: Option<Value>) -> Reply
     ensures { result ≡ given_or refusal value }
 {
     match value {
@@ -61,8 +61,8 @@ pub fn given_or(refusal: Reply, value: Option<Value>) -> Reply
     }
 }
 
-/// Whether two values are the same nil, number or reference. Takes no memory.
-pub fn same(left: Value, right: Value) -> bool
+/// Whether two values are the same: both nil, the same number, or references to the same name. Takes no memory.
+pub fn are_same(left: Value, right: Value) -> bool
     ensures { result ≡ is_same left right }
 {
     match (left, right) {
@@ -93,7 +93,7 @@ pub fn change_reply(node: &Node, maker: u8, change: Change) -> Reply
     }
 }
 
-// Returns the reply to `set`: a write of a field.
+// Returns the reply to `set`, which writes field `index` of a node.
 fn set_reply(node: &Node, index: u32) -> Reply
     ensures { (v : ValueAt) → result ≡ (field_set node.now index v).1 }
 {
@@ -110,7 +110,7 @@ fn set_reply(node: &Node, index: u32) -> Reply
     }
 }
 
-// Returns the reply to `cas`: a write of a field that is done only if the field has the expected value.
+// Returns the reply to `cas`, which writes field `index` of a node only if the field has the expected value.
 fn exchange_reply(node: &Node, index: u32, expected: Value) -> Reply
     ensures { (v : ValueAt) → result ≡ (field_exchanged node.now index expected v).1 }
 {
@@ -120,13 +120,13 @@ fn exchange_reply(node: &Node, index: u32, expected: Value) -> Reply
         _ => return Reply::WrongKind,
     }
     match node.field(index as usize) {
-        Some(old) if same(old, expected) => Reply::Yes,
+        Some(old) if are_same(old, expected) => Reply::Yes,
         Some(_) => Reply::No,
         None => Reply::NoField,
     }
 }
 
-// Returns the reply to an update of a thunk.
+// Returns the reply to `update`, which writes the result of a thunk that has none.
 fn update_reply(node: &Node) -> Reply
     ensures { (v : ValueAt) → result ≡ (thunk_updated node.now v).1 }
 {
@@ -143,7 +143,7 @@ fn update_reply(node: &Node) -> Reply
     }
 }
 
-// Returns the reply to a push; `own` says whether the stack's maker pushes.
+// Returns the reply to `push`; `own` says whether the mutator that pushes made the stack.
 fn push_reply(node: &Node, own: bool) -> Reply
     ensures { (v : ValueAt) → result ≡ (stack_pushed own node.now v).1 }
 {
@@ -161,14 +161,14 @@ fn push_reply(node: &Node, own: bool) -> Reply
     }
 }
 
-// Returns the reply to a pop; `own` says whether the stack's maker pops.
+// Returns the reply to `pop`; `own` says whether the mutator that pops made the stack.
 fn pop_reply(node: &Node, own: bool) -> Reply
     ensures { result ≡ (stack_popped own node.now).1 }
 {
     match node {
         Node::Stack { size: _, values } => {
             if own {
-                given_or(Reply::StackEmpty, values.items().last().copied())
+                value_reply(Reply::StackEmpty, values.items().last().copied())
             } else {
                 Reply::NotOwner
             }
@@ -177,7 +177,7 @@ fn pop_reply(node: &Node, own: bool) -> Reply
     }
 }
 
-// Returns the reply to a `finalise` of a node.
+// Returns the reply to `finalise`: the weak pointer's finaliser, or a refusal.
 fn finalise_reply(node: &Node) -> Reply
     ensures { result ≡ (weak_finalised node.now).1 }
 {
@@ -188,7 +188,7 @@ fn finalise_reply(node: &Node) -> Reply
     }
 }
 
-// Whether this reply means that the change is done.
+// Whether a reply to a change means that the change is done.
 fn is_done(reply: Reply) -> bool
     ensures { result ≡ is_done reply }
 {
@@ -208,7 +208,7 @@ fn is_done(reply: Reply) -> bool
     }
 }
 
-/// Changes the node of an object in place, and returns the reply. `maker`, a mutator or g's maker, made the object. A
+/// Makes a change of an object's node in place, unless refused, and returns the reply. `maker` is the object's maker. A
 /// refusal, `No` or `Already` leaves the node as it was. Only a push takes memory. After `NoMemory` the node is unchanged.
 #[tactic(auto, using(crate::proofs::Changes::done_is, crate::proofs::Changes::refused_is))]
 pub fn change_in_place(node: &mut Node, maker: u8, change: Change) -> Result<Reply, NoMemory>
@@ -223,7 +223,7 @@ pub fn change_in_place(node: &mut Node, maker: u8, change: Change) -> Result<Rep
     Ok(reply)
 }
 
-// Makes a change in the node; the reply has to say that the change is done. After `NoMemory` the node is unchanged.
+// Makes a change in the node, without a check that it is done (`is_done`). After `NoMemory` the node is unchanged.
 fn write(node: &mut Node, change: Change) -> Result<(), NoMemory>
     ensures ok { OnOk result (node.new ≡ written change node.old) }
     ensures err { OnErr result (node.new ≡ node.old) }
@@ -243,7 +243,7 @@ fn write(node: &mut Node, change: Change) -> Result<(), NoMemory>
     Ok(())
 }
 
-// Writes the field of a variable, or a field of an array. Any other node stays as it is.
+// Writes a variable's field, whatever the index, or the field of an array that has it. Any other node stays as it is.
 fn write_field(node: &mut Node, index: u32, value: Value)
     ensures { node.new ≡ field_written node.old index value }
 {
@@ -258,7 +258,7 @@ fn write_field(node: &mut Node, index: u32, value: Value)
     }
 }
 
-// Writes the result of a thunk. Any other node stays as it is.
+// Writes the result of a thunk, even if it has one already. Any other node stays as it is.
 fn write_result(node: &mut Node, value: Value)
     ensures { node.new ≡ result_written node.old value }
 {

@@ -15,9 +15,9 @@ impl World {
     ghost use Rattle.nmgc_world_spec.specs.{World.IsWorld, World.node_of, Reach.IsAliveWeak, Reach.IsInOrder, Reach.closed, Reach.closed_by};
     ghost use Rattle.nmgc_graph.specs.Closing.{IsPartlyClosed};
 
-    /// Closes the world with the weak pointers in `dead`, which are in the order of names. Each of them dies, and its
-    /// finaliser joins the end of the queue of the weak pointer's maker, unless the finaliser is nil. After `NoMemory` the
-    /// world is closed with only the first few of them. Takes time proportional to their number.
+    /// Closes the world with the weak pointers in `dead`. Each dies, and its finaliser, unless nil, joins the end of the
+    /// queue of the weak pointer's maker. They must be alive and in the order of names. After `NoMemory` the world is closed
+    /// with only the first few of them. Takes time proportional to their number.
     pub fn close(&mut self, dead: &[Name]) -> Result<(), NoMemory>
         requires ordered { IsInOrder dead.now }
         requires alive { All (IsAliveWeak self.old) dead.now }
@@ -31,7 +31,7 @@ impl World {
         answer
     }
 
-    // Makes each of the weak pointers dead, in order, and queues its finaliser.
+    // Makes each weak pointer dead, in order, and queues its finaliser, unless nil. `NoMemory` leaves the first few dead.
     fn close_all(&mut self, dead: &[Name]) -> Result<(), NoMemory>
         requires ordered { IsInOrder dead.now }
         requires alive { All (IsAliveWeak self.old) dead.now }
@@ -45,7 +45,7 @@ impl World {
         Ok(())
     }
 
-    // Makes a weak pointer dead and queues its finaliser.
+    // Makes a weak pointer dead, and adds its finaliser, unless nil, to the queue of the weak pointer's maker.
     fn close_one(&mut self, weak: Name) -> Result<(), NoMemory>
         requires { IsAliveWeak self.old weak }
         ensures ok { OnOk result (self.new ≡ closed_by self.old weak (node_of self.old weak)) }
@@ -58,7 +58,7 @@ impl World {
     }
 }
 
-// Makes the mutator's weak pointer with this serial dead, and queues its finaliser.
+// Makes the mutator's object with this serial a dead weak pointer, and queues `finaliser_of` the object, unless nil.
 fn kill_and_queue(state: &mut MutatorState, serial: u32) -> Result<(), NoMemory>
     requires { serial < length state.old.nodes }
     ensures ok { OnOk result (state.new ≡ queued (with_nth state.old serial (Node.Weak None)) (finaliser_of (slice_get state.old.nodes serial))) }

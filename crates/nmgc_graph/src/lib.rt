@@ -4,8 +4,7 @@
 //! from names to nodes that only grows, with the registers and the finaliser queue of each mutator. `nmgc_world_spec` has its
 //! types and its specification. The marking machine, the checker of traces and the tests use this crate; no run uses it.
 //!
-//! `Marks` is a set of names. This crate exports lists and `NoMemory` of `nmgc_lists` again, and the numbers of registers,
-//! mutators and shared slots of `nmgc_limits`.
+//! `Marks` is a set of names. This crate exports lists and `NoMemory` of `nmgc_lists` again, and limits of `nmgc_limits`.
 #![tactic(auto)]
 
 pub mod change;

@@ -44,7 +44,7 @@ impl Marks {
         self.rows.push(row)
     }
 
-    /// Adds a name that the set has a place for, and returns whether the name is new. Takes no memory, and constant time.
+    /// Adds a name that the set has a place for, and returns whether it was missing. Takes no memory, and constant time.
     pub fn insert(&mut self, name: Name) -> bool
         requires { HasPlace self.old name }
         ensures new { result ≡ not (mark_of self.old name) }
@@ -63,7 +63,7 @@ impl Marks {
         }
     }
 
-    /// Returns the names of the set in order. After `NoMemory` there is no answer. Takes time for each place.
+    /// Returns the names of the set in order. After `NoMemory` there is no answer. Takes time for each place of the set.
     pub fn names(&self, alloc: Global) -> Result<List<Name>, NoMemory>
         requires makers { length self.now ≤ 256 }
         requires serials { All (λ row. length row ≤ 2 ^ 32) self.now }
@@ -84,7 +84,7 @@ impl Marks {
         self.rows.items()[maker as usize].items()
     }
 
-    // Adds the set's names of `maker` to a list that has the set's names of all makers before.
+    // Adds the set's names of `maker` to a list that already has the set's names of all earlier makers.
     fn list_row(&self, maker: u8, names: &mut List<Name>) -> Result<(), NoMemory>
         requires maker { maker < length self.now }
         requires serials { All (λ row. length row ≤ 2 ^ 32) self.now }
@@ -115,7 +115,7 @@ fn set_mark(row: &mut List<bool>, serial: u32) -> bool
     new
 }
 
-// Whether a serial is marked.
+// Whether a serial is marked. A serial without a place isn't marked.
 fn is_set(row: &[bool], serial: u32) -> bool
     ensures { result ≡ slice_index_or row.now serial false }
 {

@@ -12,8 +12,8 @@ use nmgc_lists::NoMemory;
 use nmgc_world_spec::{Command, Name, Operand, Parts, Value};
 use std::alloc::Global;
 
-/// Returns the names, at most two, that a mutator's command opens if it is done in this world. `deref` opens the name in the
-/// value that it reads. `finalise` opens the names in the value and the finaliser of the weak pointer that it kills. After
+/// Returns the names, at most two, that a mutator's command would open in this world. `deref` opens the name in the value
+/// that it reads. `finalise` opens the names in the value and the finaliser of the weak pointer that it kills. After
 /// `NoMemory` there is no answer. Takes constant time.
 pub fn opened_by(world: &World, mutator: u8, command: &Command) -> Result<Vec<Name>, NoMemory>
     requires mutator { mutator < length world.now.mutators }
@@ -34,8 +34,8 @@ pub fn opened_by(world: &World, mutator: u8, command: &Command) -> Result<Vec<Na
     }
 }
 
-/// Returns the weak pointer, if any, that a mutator's command kills if it is done in this world: only `finalise` kills. After
-/// `NoMemory` there is no answer. Takes constant time.
+/// Returns the weak pointer that a mutator's command would kill in this world, as a list, which is empty if it kills none.
+/// Only `finalise` kills. After `NoMemory` there is no answer. Takes constant time.
 pub fn finalised_by(world: &World, mutator: u8, command: &Command) -> Result<Vec<Name>, NoMemory>
     requires mutator { mutator < length world.now.mutators }
     requires registers { HasRegisters command.now }
@@ -51,7 +51,7 @@ pub fn finalised_by(world: &World, mutator: u8, command: &Command) -> Result<Vec
     }
 }
 
-// Returns the parts of the object to which an operand refers, if the object is a weak pointer that is alive.
+// Returns the parts of the weak pointer to which an operand refers, and `None` if it refers to no weak pointer that is alive.
 fn parts_of(world: &World, mutator: u8, object: Operand) -> Option<Parts>
     requires mutator { mutator < length world.now.mutators }
     requires operand { IsOperand object }

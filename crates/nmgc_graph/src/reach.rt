@@ -26,10 +26,10 @@ impl World {
     ghost use Rattle.nmgc_graph.specs.{Marks.HasPlaces, Marks.count_of, Waiting.key_of, Waiting.bounds_of, Waiting.bound_of, Waiting.AreFiled, Waiting.IsRevival};
     ghost use Rattle.nmgc_graph.specs.Search.{IsSearch, IsFollowed, parts_of, with_weak, with_weaks, starts_of, IsLiveSearch, IsLiveFound, IsKeptFound, IsLost, IsSetOf, is_lost, finalisers_of};
 
-    /// Returns the live names in order. They are the least set that has g, the targets of registers and finaliser queues, and
-    /// the names in `extra`, and that follows strong fields. It also has each weak pointer that is alive and whose key is
-    /// live, nil or a number, with value and finaliser. After `NoMemory` there is no answer. Takes time proportional to the
-    /// names, their fields and `extra`, and memory for each name.
+    /// Returns the live names in order: the least set with three rules. It has g, the targets of registers and finaliser
+    /// queues, and the names in `extra`, which must be in the world. It has the targets of its names' strong fields. It has
+    /// each weak pointer that is alive and whose key is live, nil or a number, with value and finaliser. After `NoMemory`
+    /// there is no answer. Takes time proportional to the names, their fields and `extra`, and memory for each name.
     pub fn live(&self, extra: &[Name]) -> Result<List<Name>, NoMemory>
         requires { All (λ name. IsSome (node_of self.now name)) extra.now }
         ensures { IfOk result (λ names. Lists (IsLive self.now extra.now) names) }
@@ -41,9 +41,9 @@ impl World {
         search.marks.names(self.alloc)
     }
 
-    /// Returns the dead weak pointers in order, which die at the closing. Each is alive so far and isn't in `finalised`, and
-    /// its key refers to a name that isn't live. Names in `finalised` that the world doesn't have are ignored. Takes the time
-    /// of `live`, and constant time for each name in `finalised`.
+    /// Returns the dead weak pointers in order. Each is alive so far and isn't in `finalised`, and its key refers to a name
+    /// that isn't live with `extra` (`live`). Names in `finalised` that the world doesn't have are ignored. Takes the time of
+    /// `live`, and constant time for each name in `finalised`.
     pub fn dead_weaks(&self, extra: &[Name], finalised: &[Name]) -> Result<List<Name>, NoMemory>
         requires { All (λ name. IsSome (node_of self.now name)) extra.now }
         ensures { IfOk result (λ names. Lists (IsDead self.now extra.now finalised.now) names) }
@@ -53,8 +53,8 @@ impl World {
         self.lost_weaks(&search, weaks.items(), finalised)
     }
 
-    /// Returns the kept names in order: the live names, the finalisers of dead weak pointers, and all that is reachable from
-    /// these along strong fields. Takes the time of `live`, and constant time for each name in `finalised`.
+    /// Returns the kept names in order: the live names, the finalisers of dead weak pointers, and all names that these
+    /// finalisers reach along strong fields. Takes the time of `live`, and constant time for each name in `finalised`.
     pub fn kept(&self, extra: &[Name], finalised: &[Name]) -> Result<List<Name>, NoMemory>
         requires { All (λ name. IsSome (node_of self.now name)) extra.now }
         ensures { IfOk result (λ names. Lists (IsKept self.now extra.now finalised.now) names) }
@@ -89,7 +89,7 @@ impl World {
         Ok(weaks)
     }
 
-    // Adds the weak pointers of `maker` that are alive to a list that has them for all makers before.
+    // Adds the weak pointers of `maker` that are alive to a list that has the alive weak pointers of all earlier makers.
     fn list_weaks(&self, maker: u8, weaks: &mut List<Name>) -> Result<(), NoMemory>
         requires maker { maker < length self.now.mutators }
         requires before { ListsBefore (IsAliveWeak self.now) maker 0 weaks.old }
@@ -105,7 +105,7 @@ impl World {
         Ok(())
     }
 
-    // Returns the weak pointers that are alive and not in `finalised`, and whose keys aren't marked, in order.
+    // Returns, in order, the weak pointers in `weaks` that aren't in `finalised` and whose keys aren't marked.
     fn lost_weaks(
         &self,
         search: &Search,
@@ -125,7 +125,7 @@ impl World {
         Ok(names)
     }
 
-    // Whether a weak pointer is alive and not finalised, and its key isn't marked.
+    // Whether a weak pointer is alive and isn't in `finalised`, and its key isn't marked.
     fn is_lost(&self, search: &Search, weak: Name, finalised: &Marks) -> bool
         ensures { result ≡ is_lost search.now.marks finalised.now weak (parts_of self.now weak) }
     {
@@ -135,12 +135,12 @@ impl World {
         }
     }
 
-    /// Returns the set of those names in `names` that are in the map. After `NoMemory` there is no answer. Takes memory and
+    /// Returns the set of those names in `names` that the world has. After `NoMemory` there is no answer. Takes memory and
     /// time for each name of this world, and constant time for each name in `names`.
     pub fn set_of(&self, names: &[Name]) -> Result<Marks, NoMemory>
         ensures { IfOk result (IsSetOf self.now names.now) }
     {
-        let mut marks = self.no_names()?;
+        let mut marks = self.empty_set()?;
         for name in names {
             if self.node(*name).is_some() {
                 marks.insert(*name);
@@ -149,7 +149,7 @@ impl World {
         Ok(marks)
     }
 
-    // Marks the finalisers of the weak pointers in `weaks` that are alive.
+    // Marks the finalisers of those weak pointers in `weaks` that are alive.
     fn mark_finalisers(&self, weaks: &[Name], search: &mut Search) -> Result<(), NoMemory>
         requires { HasPlaces self.now search.old.marks }
         ensures { OnOk result (search.new ≡ with_values search.old (finalisers_of self.now weaks.now)) }
@@ -176,7 +176,7 @@ impl World {
         Ok(())
     }
 
-    // Marks the targets of a name's strong fields.
+    // Marks the targets of the strong fields of a name's node, if the name has a node.
     fn mark_fields(&self, name: Name, search: &mut Search) -> Result<(), NoMemory>
         requires { HasPlaces self.now search.old.marks }
         ensures { OnOk result (search.new ≡ with_values search.old (fields_in (node_of self.now name))) }
@@ -198,7 +198,7 @@ impl World {
         }
     }
 
-    // Marks a weak pointer, its value and its finaliser, if its key is marked.
+    // If a weak pointer is alive and its key counts as marked, marks the weak pointer, its value and its finaliser.
     fn mark_weak(&self, weak: Name, search: &mut Search) -> Result<(), NoMemory>
         requires { HasPlaces self.now search.old.marks }
         ensures { OnOk result (search.new ≡ with_weak search.old weak (parts_of self.now weak)) }
@@ -212,7 +212,7 @@ impl World {
         }
     }
 
-    // Goes over weak pointers in order: each one with a marked key is marked, with its value and its finaliser.
+    // In order, marks each weak pointer in `weaks` that is alive and has a marked key by then, with its value and finaliser.
     fn mark_weaks(&self, weaks: &[Name], search: &mut Search) -> Result<(), NoMemory>
         requires { HasPlaces self.now search.old.marks }
         ensures { OnOk result (search.new ≡ with_weaks self.now search.old weaks.now) }
@@ -249,7 +249,7 @@ impl World {
         Ok(waiting)
     }
 
-    // Makes an index of weak pointers by the names that they wait for, which are their keys.
+    // Makes an index of the weak pointers in `weaks` by the names that they wait for, which are their keys.
     fn index_weaks(&self, weaks: &[Name]) -> Result<Waiting, NoMemory>
         ensures { IfOk result (AreFiled self.now weaks.now (length weaks.now)) }
     {
@@ -260,7 +260,7 @@ impl World {
         Ok(waiting)
     }
 
-    // Marks the weak pointers that wait for `name`, a marked name, with their values and their finalisers.
+    // Marks the weak pointers in `weaks` that wait for `name`, if `name` is marked, with their values and their finalisers.
     fn revive(
         &self,
         name: Name,
@@ -296,7 +296,7 @@ impl World {
     }
 
     /// Returns an empty set of names, with a place for exactly the names of this world. Takes memory and time for each name.
-    pub fn no_names(&self) -> Result<Marks, NoMemory>
+    pub fn empty_set(&self) -> Result<Marks, NoMemory>
         ensures places { IfOk result (λ marks. HasPlaces self.now marks) }
         ensures none { IfOk result (λ marks. (name : NameAt) → mark_of marks name ≡ false) }
     {
@@ -324,14 +324,14 @@ impl World {
         ensures { IfOk result (IsLiveSearch self.now extra.now) }
     {
         let mut search = Search {
-            marks: self.no_names()?,
+            marks: self.empty_set()?,
             work: List::new(self.alloc),
         };
         self.mark_starts(extra, &mut search)?;
         Ok(search)
     }
 
-    // Returns a search that has marked exactly the live names. `weaks` are the weak pointers that are alive.
+    // Returns a search that has marked exactly the live names. `weaks` has to list the weak pointers that are alive.
     fn find_live(&self, extra: &[Name], weaks: &[Name]) -> Result<Search, NoMemory>
         requires extra { All (λ name. IsSome (node_of self.now name)) extra.now }
         requires weaks { Lists (IsAliveWeak self.now) weaks.now }

@@ -14,7 +14,7 @@ impl World {
         self.alloc
     }
 
-    /// Returns the number of mutators. Takes no memory, and constant time.
+    /// Returns the number of mutators. Takes no memory, and constant time. The clause `closed` holds in every world.
     pub fn mutators(&self) -> u8
         ensures count { result ≡ length self.now.mutators }
         ensures closed { IsWorld self.now }
@@ -30,7 +30,7 @@ impl World {
         self.mutators.items()[mutator as usize].registers.items()
     }
 
-    /// Returns the serial of a mutator's next object: the number of objects made so far. Takes no memory, and constant time.
+    /// Returns a mutator's next serial: the number of objects that it has made. Takes no memory, and constant time.
     pub fn serial(&self, mutator: u8) -> u32
         requires { mutator < length self.now.mutators }
         ensures { result ≡ serial_of self.now mutator }

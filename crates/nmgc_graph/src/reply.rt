@@ -6,13 +6,13 @@
 ghost use Rattle.std.specs.Prelude.{◌≡◌, ◌<◌, length};
 
 use crate::World;
-use crate::change::{change_reply, given_or};
+use crate::change::{change_reply, value_reply};
 use nmgc_world_spec::{Change, Command, Name, Reply, Value};
 
 impl World {
     ghost use Rattle.nmgc_world_spec.specs.{Command.HasRegisters, Step.step, Step.asked, Step.change_asked, Step.change_object, Step.next_name, World.state_of};
 
-    /// Returns the reply that `apply` gives if there is memory. Changes nothing. Takes no memory, and constant time.
+    /// Returns the reply that `apply` would give with enough memory. Takes no memory, and constant time.
     pub fn reply(&self, mutator: u8, command: &Command) -> Reply
         requires mutator { mutator < length self.now.mutators }
         requires registers { HasRegisters command.now }
@@ -45,7 +45,7 @@ impl World {
             | Command::Pop { .. }
             | Command::Finalise { .. } => self.asked_reply(mutator, command),
             Command::NextFin { dest: _ } => {
-                given_or(Reply::Nothing, self.queue(mutator).first().copied())
+                value_reply(Reply::Nothing, self.queue(mutator).first().copied())
             }
             Command::Show { value } => Reply::Given(self.value(mutator, *value)),
             Command::Same { left, right } => self.compare(mutator, *left, *right),
@@ -63,19 +63,19 @@ impl World {
         }
     }
 
-    // Returns the reply to the change that a command asks for, if it asks for one.
+    // Returns the reply to the change that a command asks for, and `Fine` if it asks for none.
     fn asked_reply(&self, mutator: u8, command: &Command) -> Reply
         requires mutator { mutator < length self.now.mutators }
         requires registers { HasRegisters command.now }
         ensures { result ≡ (change_asked self.now (asked self.now mutator command.now)).1 }
     {
-        match self.asked(mutator, command) {
+        match self.asked_change(mutator, command) {
             Some((object, change)) => self.object_reply(object, change),
             None => Reply::Fine,
         }
     }
 
-    // Returns the reply to a change of the object that a value refers to.
+    // Returns the reply to a change of the object that a value refers to, or `NoPointer` if there is no such object.
     fn object_reply(&self, object: Value, change: Change) -> Reply
         ensures { result ≡ (change_object self.now object change).1 }
     {

@@ -2,8 +2,7 @@
 //!
 //! A name is marked once, and joins the worklist when it is marked. So a search takes time proportional to the names that it
 //! marks and the fields that it reads, and it needs no recursion. The fields of a marked name refer to marked names, unless
-//! the name is on the worklist. So once a name is taken off the list, all names in its fields have to be marked before the
-//! next one is taken.
+//! the name is on the worklist. So all names in a name's fields have to be marked before the next name is taken.
 ghost use Rattle.std.specs.Prelude.{◌≡◌, All, OnOk, map};
 ghost use Rattle.nmgc_world_spec.specs.{declared.value.Value.TheVariants.Ref, Reach.strong_fields};
 ghost use Rattle.nmgc_graph.specs.Marks.{HasPlace, IsPlaced};
@@ -33,7 +32,7 @@ impl Search {
         Ok(())
     }
 
-    /// Marks the name that a value refers to, if the value refers to a name.
+    /// If a value refers to a name, marks the name, and puts it on the worklist if it wasn't marked before.
     pub(crate) fn mark_value(&mut self, value: Value) -> Result<(), NoMemory>
         requires { IsPlaced self.old.marks value }
         ensures { OnOk result (self.new ≡ with_value self.old value) }
@@ -44,7 +43,7 @@ impl Search {
         }
     }
 
-    /// Marks the names that values refer to.
+    /// Marks the names that values refer to, and puts those that weren't marked before on the worklist.
     pub(crate) fn mark_values(&mut self, values: &[Value]) -> Result<(), NoMemory>
         requires { All (IsPlaced self.old.marks) values.now }
         ensures { OnOk result (self.new ≡ with_values self.old values.now) }
@@ -66,7 +65,7 @@ impl Search {
         Ok(())
     }
 
-    /// Marks the targets of a node's strong fields.
+    /// Marks the targets of a node's strong fields, and puts those that weren't marked before on the worklist.
     pub(crate) fn mark_fields(&mut self, node: &Node) -> Result<(), NoMemory>
         requires { All (IsPlaced self.old.marks) (strong_fields node.now) }
         ensures { OnOk result (self.new ≡ with_values self.old (strong_fields node.now)) }
@@ -85,7 +84,7 @@ impl Search {
         }
     }
 
-    /// Whether a key is nil, a number, or a reference to a marked name.
+    /// Whether a key counts as marked: it is nil, a number, or a reference to a marked name.
     pub(crate) fn is_key_marked(&self, value: Value) -> bool
         ensures { result ≡ is_key_marked self.now.marks value }
     {

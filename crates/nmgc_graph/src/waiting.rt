@@ -4,11 +4,11 @@
 //! exactly the weak pointers that wait for this name. They are in a list, and a position in the list represents a weak
 //! pointer. The index has a bound for each name. The weak pointers that wait for the name have positions below the bound, and
 //! the last is just below it. For each weak pointer the index also has the bound that its key had before, which leads to the
-//! weak pointer before it with the same key. So filing a weak pointer takes constant time, and going over those that wait for
+//! weak pointer before it with the same key. So adding a weak pointer takes constant time, and going over those that wait for
 //! a name takes time for these alone.
 //!
-//! Easy to get wrong: a bound is one more than a position, and 0 if none waits. Each bound on the way is smaller than the
-//! bound before it, so the way ends.
+//! Easy to get wrong: a bound is one more than a position, and 0 if no weak pointer waits. Each bound leads to a smaller
+//! bound, so going over the weak pointers of a name ends.
 ghost use Rattle.std.specs.Prelude.{◌≡◌, ◌<◌, ◌≤◌, ◌^◌, [], ◌∷◌, ◌++◌, length, replicate, slice_index, slice_set, OnOk, IfSome};
 
 use nmgc_lists::{List, NoMemory};
@@ -43,7 +43,7 @@ impl Waiting {
         self.bounds.push(row)
     }
 
-    /// Files the next weak pointer of the list, which waits for `key`, or for no name. Takes constant time.
+    /// Adds the list's next weak pointer, which waits for the name in `key`, if any, to the index. Takes constant time.
     pub(crate) fn add(&mut self, key: Option<Name>) -> Result<(), NoMemory>
         requires { IfSome key (HasBound self.old.bounds) }
         ensures { OnOk result (self.new ≡ with_next self.old key) }
@@ -60,7 +60,7 @@ impl Waiting {
         self.before.push(before)
     }
 
-    /// Returns the bound of a name; it is 0 if no weak pointer waits for the name. Takes constant time.
+    /// Returns the bound of a name, and 0 if no weak pointer waits for the name. Takes constant time.
     pub(crate) fn bound(&self, name: Name) -> usize
         ensures { result ≡ bound_of self.now.bounds name }
     {
@@ -70,7 +70,8 @@ impl Waiting {
         }
     }
 
-    /// Returns the bound that a weak pointer's key had before the weak pointer, at `place`, was filed. Takes constant time.
+    /// Returns the bound that the key of the weak pointer at `place` had before this weak pointer was added, and 0 if this
+    /// weak pointer waits for no name. Takes constant time.
     pub(crate) fn bound_before(&self, place: usize) -> usize
         requires { place < length self.now.before }
         ensures { result ≡ slice_index self.now.before place }
@@ -79,7 +80,7 @@ impl Waiting {
     }
 }
 
-// Sets the bound of a serial, and returns its old bound.
+// Replaces the bound of a serial, and returns the bound that was there before.
 fn replace_bound(row: &mut List<usize>, serial: u32, bound: usize) -> usize
     requires { serial < length row.old }
     ensures before { result ≡ slice_index row.old serial }

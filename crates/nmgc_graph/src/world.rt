@@ -4,14 +4,14 @@
 //! of each mutator. Its invariant is that it is closed: every reference in a register, a queue or a node names a node of the
 //! map. The collector is judged by this model: a reply of a run is right if the world gives the same reply.
 //!
-//! Each change of a mutator's state, or of a node, is a function of its own. A method of the world only lends it that part.
-//! No name ever leaves the map. So a world stays closed if each reference that is written names a node of the map.
+//! Each change of a mutator's state, or of a node, is a function of its own, to which a method of the world lends only that
+//! part. No name ever leaves the map. So a world stays closed if each reference that is written names a node of the map.
 //!
 //! Easy to get wrong: after `NoMemory` nothing may have changed. So all memory is taken before a register is written.
 ghost use Rattle.std.specs.Prelude.{replicate, Some, None, [], ◌≡◌, ◌-◌, ◌<◌, ◌≤◌, ◌^◌, length, map, IfOk, IfSome, IsSome, OnOk, OnErr, slice_get, option_copied, All};
 ghost use Rattle.nmgc_world_spec.specs.{World.new_mutator, Command.IsOperand, Command.IsRegister, Step.value_of, Step.with_new, Step.next_name, Step.holding, Step.with_finaliser, Step.with_nth, declared.node.Node.Node as NodeAt, Change.given_or, Change.changed, Change.field_read, Change.result_read, Change.value_read};
 
-use crate::change::{change_in_place, read_field, read_result, read_value, same};
+use crate::change::{are_same, change_in_place, read_field, read_result, read_value};
 use nmgc_limits::{MAKERS, REGISTERS, SHARED_MAKER, SHARED_SLOTS};
 use nmgc_lists::{List, NoMemory, Queue};
 use nmgc_world_spec::{Change, Command, MutatorState, Name, Node, Operand, Parts, Reply, Value};
@@ -53,8 +53,7 @@ impl World {
     ghost use Rattle.nmgc_world_spec.specs.Command.{HasRegisters};
     ghost use Rattle.nmgc_world_spec.specs.Step.{step, value_for, values_for, born, with_register, keeping, object_of, read_object, asked, change_asked, change_into, change_object, change_node, next_finaliser, same_reply};
 
-    /// Makes the world of 1 to `MAKERS` mutators before any command: registers are nil, queues are empty, g is full of nil,
-    /// and no mutator has made anything.
+    /// Makes the world of 1 to `MAKERS` mutators that have made nothing: registers and g's slots are nil, queues are empty.
     pub fn new(alloc: Global, mutators: u8) -> Result<Self, NoMemory>
         requires some { 1 ≤ mutators }
         requires few { mutators ≤ MAKERS }
@@ -71,8 +70,8 @@ impl World {
         })
     }
 
-    /// Does a command of a mutator, and returns the reply, as `step` defines them. `can_apply` returns whether the conditions
-    /// hold. A refusal, or `NoMemory`, changes nothing. The world stays closed, no name leaves it, and serials only rise.
+    /// Does a command of a mutator as `step` defines it, and returns the reply. Requires that `can_apply` is true. A refusal,
+    /// or `NoMemory`, changes nothing. The world stays closed, no name leaves it, and no serial falls.
     pub fn apply(&mut self, mutator: u8, command: &Command) -> Result<Reply, NoMemory>
         requires mutator { mutator < length self.old.mutators }
         requires registers { HasRegisters command.now }
@@ -88,7 +87,7 @@ impl World {
         answer
     }
 
-    // Does a command of a mutator, and returns the reply.
+    // Does a command of a mutator, and returns the reply. After `NoMemory` the world is unchanged.
     fn do_command(&mut self, mutator: u8, command: &Command) -> Result<Reply, NoMemory>
         requires mutator { mutator < length self.old.mutators }
         requires registers { HasRegisters command.now }
@@ -255,7 +254,7 @@ impl World {
         self.add(mutator, dest, Node::Stack { size, values })
     }
 
-    /// Returns the reply to `get` for the object of a value: a field, or a refusal. Takes no memory, and constant time.
+    /// Returns the reply to `get` of a value's target: field `index`, or a refusal. Takes no memory, and constant time.
     pub fn field(&self, object: Value, index: u32) -> Reply
         ensures reply { result ≡ read_object (object_of self.now object) (λ node. field_read node index) }
         ensures known { IsKnownReply self.now result }
@@ -266,8 +265,7 @@ impl World {
         }
     }
 
-    /// Returns the reply to `force` for the object of a value: a thunk's result, or a refusal. Takes no memory, and constant
-    /// time.
+    /// Returns the reply to `force` of a value's target: a thunk's result, or a refusal. Takes no memory, and constant time.
     pub fn result_of(&self, object: Value) -> Reply
         ensures reply { result ≡ read_object (object_of self.now object) result_read }
         ensures known { IsKnownReply self.now result }
@@ -278,8 +276,8 @@ impl World {
         }
     }
 
-    /// Returns the reply to `deref` for the object of a value: a weak pointer's value, or a refusal. Takes no memory, and
-    /// constant time.
+    /// Returns the reply to `deref` of a value's target: the value of a weak pointer that is alive, or a refusal. Takes no
+    /// memory, and constant time.
     pub fn weak_value(&self, object: Value) -> Reply
         ensures reply { result ≡ read_object (object_of self.now object) value_read }
         ensures known { IsKnownReply self.now result }
@@ -290,7 +288,7 @@ impl World {
         }
     }
 
-    // Does the change that a command asks for, if it asks for a change, and returns the reply.
+    // Does the change that a command asks for, and returns the reply. If the command asks for no change, the reply is `Fine`.
     fn change(&mut self, mutator: u8, command: &Command) -> Result<Reply, NoMemory>
         requires mutator { mutator < length self.old.mutators }
         requires registers { HasRegisters command.now }
@@ -298,13 +296,13 @@ impl World {
         ensures reply { IfOk result (IsKnownReply self.new) }
         ensures err { OnErr result (self.new ≡ self.old) }
     {
-        match self.asked(mutator, command) {
+        match self.asked_change(mutator, command) {
             Some((object, change)) => self.change_object(object, change),
             None => Ok(Reply::Fine),
         }
     }
 
-    // Does the change that a command asks for, puts the value in the reply, if any, into a register, and returns the reply.
+    // Does the change that a command asks for, and returns the reply. If the reply gives a value, `register` gets the value.
     fn change_into(
         &mut self,
         mutator: u8,
@@ -324,7 +322,7 @@ impl World {
     /// Returns the value of a command's object operand, and the change that the command asks of this object. Returns `None`
     /// exactly if the command asks for no change. The marking machine and the barrier checker use it to find the references
     /// that a command removes. Takes no memory, and constant time.
-    pub fn asked(&self, mutator: u8, command: &Command) -> Option<(Value, Change)>
+    pub fn asked_change(&self, mutator: u8, command: &Command) -> Option<(Value, Change)>
         requires mutator { mutator < length self.now.mutators }
         requires registers { HasRegisters command.now }
         ensures asked { result ≡ asked self.now mutator command.now }
@@ -403,8 +401,7 @@ impl World {
         )
     }
 
-    /// Returns the object that a value refers to, or `None` exactly if the value refers to no name of the map. Takes no
-    /// memory, and constant time.
+    /// Returns the object that a value refers to, or `None` exactly if there is none. Takes no memory, and constant time.
     pub fn object(&self, value: Value) -> Option<&Node>
         ensures object { option_copied result ≡ object_of self.now value }
         ensures node { IfSome (option_copied result) (IsNodeOf self.now) }
@@ -459,21 +456,21 @@ impl World {
         self.set_register(mutator, register, value)
     }
 
-    /// Returns the reply to `same`: whether two operands have the same value. Takes no memory, and constant time.
+    /// Returns the reply to `same`: `Yes` if two operands have the same value, else `No`. Takes no memory, and constant time.
     pub fn compare(&self, mutator: u8, left: Operand, right: Operand) -> Reply
         requires mutator { mutator < length self.now.mutators }
         requires left { IsOperand left }
         requires right { IsOperand right }
         ensures { result ≡ same_reply (value_for self.now mutator left) (value_for self.now mutator right) }
     {
-        if same(self.value(mutator, left), self.value(mutator, right)) {
+        if are_same(self.value(mutator, left), self.value(mutator, right)) {
             Reply::Yes
         } else {
             Reply::No
         }
     }
 
-    // Writes the value that a reply gives, if any, into a register, and returns the reply.
+    // Writes the value that a reply gives, if any, into a register, and returns the same reply.
     fn keep_reply(&mut self, mutator: u8, register: u8, reply: Reply) -> Reply
         requires mutator { mutator < length self.old.mutators }
         requires register { IsRegister register }
@@ -487,7 +484,7 @@ impl World {
         reply
     }
 
-    // Adds a new node, puts its reference into a register, and replies with its name.
+    // Adds a new node of a mutator, puts a reference to the node into a register, and replies with the node's name.
     fn add(&mut self, mutator: u8, register: u8, made: Node) -> Result<Reply, NoMemory>
         requires mutator { mutator < length self.old.mutators }
         requires register { IsRegister register }
@@ -501,7 +498,8 @@ impl World {
         Ok(Reply::Given(Value::Ref(name)))
     }
 
-    // Changes the object that a value refers to, and returns the reply.
+    // Makes a change to the object that a value refers to, unless the change is refused. Returns the reply, which is
+    // `NoPointer` if the value refers to no object.
     fn change_object(&mut self, object: Value, change: Change) -> Result<Reply, NoMemory>
         requires object { IsKnown self.old object }
         requires known { IsKnownChange self.old change }
@@ -516,7 +514,7 @@ impl World {
         }
     }
 
-    // Changes the node of a name, and returns the reply.
+    // Makes a change, unless refused, of a name's node, and returns the reply. The world has to have the name.
     fn change_node(&mut self, name: Name, change: Change) -> Result<Reply, NoMemory>
         requires there { IsSome (node_of self.old name) }
         requires known { IsKnownChange self.old change }
@@ -534,7 +532,7 @@ impl World {
         )
     }
 
-    // Moves the first finaliser of a mutator's queue, if any, into a register, and returns the reply of `nextfin`.
+    // Moves the first finaliser of a mutator's queue, if any, into a register, and returns the reply to `nextfin`.
     fn next_finaliser(&mut self, mutator: u8, register: u8) -> Reply
         requires mutator { mutator < length self.old.mutators }
         requires register { IsRegister register }
@@ -553,7 +551,7 @@ fn write_register(state: &mut MutatorState, register: u8, value: Value)
     state.registers.items_mut()[register as usize] = value;
 }
 
-// Moves the first finaliser of the queue, if any, into a register, and returns the reply of `nextfin`.
+// Moves the first finaliser of the queue, if any, into a register, and returns the reply to `nextfin`.
 fn take_finaliser(state: &mut MutatorState, register: u8) -> Reply
     requires registers { length state.old.registers ≡ REGISTERS }
     requires register { IsRegister register }
@@ -596,7 +594,7 @@ fn values_at(
     List::from_vec(values)
 }
 
-// Adds a node to the nodes that a mutator made, puts its reference into a register, and returns its name.
+// Adds a new node of a mutator, puts a reference to the node into a register, and returns the node's name.
 fn add_node(
     state: &mut MutatorState,
     mutator: u8,
@@ -619,7 +617,7 @@ fn add_node(
     Ok(name)
 }
 
-// Changes an object that this mutator made, and returns the reply.
+// Makes a change, unless refused, of the object at the name's serial. Returns the reply. `NoMemory` changes nothing.
 fn change_nth(state: &mut MutatorState, name: Name, change: Change) -> Result<Reply, NoMemory>
     requires { name.serial < length state.old.nodes }
     ensures state { (old : NodeAt) → slice_get state.old.nodes name.serial ≡ Some old →

@@ -1,7 +1,6 @@
 -- The changes to words, places and world after which the words still represent the world.
 --
--- Each definition is the condition of a law, about one change at a time and its result. A round makes these changes one after
--- another, and a stop makes many at once.
+-- Each definition is a law's condition on one change. A round makes the changes one by one, and a stop makes many at once.
 use Rattle.std.specs.Prelude.{ℕ, ◌≡◌, ◌≢◌, ◌+◌, ◌<◌, ◌≤◌, ◌⊎◌, List, ◌∷◌, length, slice_index, slice_get, Contains, Some, None}
 use Rattle.nmgc_world_spec.specs.{declared.value.Name.Name, declared.value.Value.TheVariants.Ref, declared.node.Node.Node, declared.node.Node.TheVariants.Weak, World.World, World.node_of}
 use Rattle.nmgc_object.specs.{Words.name_word, Words.IsHeader, Words.IsName, Places.InNursery, declared.layout.Layout.Layout, declared.size.TheConstants.HEADER_WORDS, declared.size.TheConstants.NAME_OFFSET}
@@ -75,8 +74,7 @@ pub record IsApart (layout : Layout) (earlier : List World) (places : List Place
   pub objects : (p : Place) (node : Node) → Contains places p → IsSpokenOf layout earlier w p → node_of w p.name ≡ Some node →
       (p.at + size_of node ≤ at) ⊎ (at + size ≤ p.at)
 
--- a new object: its name and its fields are in the words already, no node had its name, no other node changes, and no other
--- name becomes tracked
+-- a new object: its name and fields are written, no node had its name, no other node changes, and no other name gets tracked
 pub record IsBorn (layout : Layout) (earlier : List World) (K L : Name → Node →
     Type 0) (places more : List Place) (w v : World) (words : List ℕ) (x : Place) (made : Node) : Type 0 where
   pub place : AddsPlace places more x

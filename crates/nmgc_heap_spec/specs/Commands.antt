@@ -15,8 +15,7 @@ pub data NodeStep (w v : World) (new : Name) : Type 0 where
 abbrev pub StepIsOne : Type 0
 StepIsOne = (w : World) (m : ℕ) (c : Command) → IsWorld w → CanApply w m c → NodeStep w (step w m c).0 (next_name (state_of w m) m)
 
--- a command's change of one field of a tracked object fulfils `ChangesField`, if the field's new word is as the node
--- specifies
+-- a command's change of a tracked object's field fulfils `ChangesField`, if its new word is as the node specifies
 abbrev pub StepChangesField : Type 0
 StepChangesField = (w : World) (m : ℕ) (c : Command) (earlier : List World) (places : List Place) (p : Place) (i word : ℕ) (node made : Node) →
     IsWorld w → AreEarlier earlier w → CanApply w m c → Contains places p → IsTracked w earlier p.name → node_of w p.name ≡ Some node →

@@ -1,8 +1,7 @@
 -- Words that represent a world.
 --
--- The places are given as a list, since a block in use may hold an object that is no longer used. Its name is still there,
--- and its fields mean nothing. Two facts are about segments, and so no part of this: the places in segments are the blocks in
--- use, and each object fits its block.
+-- The places are given as a list, since a block in use may have an object no longer used. Its name is still there; its fields
+-- mean nothing. Two facts on segments are no part of this: their places are the blocks in use, and objects fit their blocks.
 use Rattle.std.specs.Prelude.{ℕ, ◌≡◌, ◌+◌, ◌≤◌, ◌⊎◌, List, length, slice_index, Contains, Some, None, IsSome}
 use Rattle.nmgc_world_spec.specs.{declared.value.Name.Name, declared.node.Node.Node, declared.node.Node.TheVariants.Weak, World.World, World.node_of, World.IsWorld}
 use Rattle.nmgc_object.specs.{Words.header_word, Words.name_word, Words.IsHeader, Words.IsName, Places.InNursery, Places.word_total, declared.layout.Layout.Layout, declared.size.TheConstants.HEADER_WORDS, declared.size.TheConstants.NAME_OFFSET}
@@ -16,8 +15,7 @@ pub record IsNamed (layout : Layout) (w : World) (words : List ℕ) (p : Place) 
   pub name : slice_index words (p.at + NAME_OFFSET) ≡ name_word p.name
   pub lies : LiesWell layout p HEADER_WORDS
 
--- an object of this node lies at the place: it has the node's header, lies well with its size (`LiesWell`), and no other
--- place is in it
+-- an object of this node at the place: its header is the node's, its size lies well (`LiesWell`), no other place is in it
 pub record IsObject (layout : Layout) (places : List Place) (words : List ℕ) (p : Place) (node : Node) : Type 0 where
   pub header : slice_index words p.at ≡ header_word (header_of node)
   pub valid : IsHeader (header_of node)

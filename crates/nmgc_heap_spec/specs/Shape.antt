@@ -38,8 +38,8 @@ slots_of (Weak None) = unspecified ∷ unset ∷ unspecified ∷ []
 slots_of (Weak (Some parts)) = holds parts.key ∷ holds parts.value ∷ holds parts.finaliser ∷ []
 slots_of (Stack size values) = map holds values ++ replicate (size - length values) unset
 
--- the permanent fields of an earlier node: the free variables of a thunk that had no result; key and finaliser of a weak
--- pointer that was alive
+-- the permanent fields of an earlier node: free variables of a thunk without result, key and finaliser of a weak pointer that
+-- is alive
 abbrev pub fixed_slots : Node → List Slot
 fixed_slots (Thunk free None) = unspecified ∷ map holds free
 fixed_slots (Weak (Some parts)) = holds parts.key ∷ unspecified ∷ holds parts.finaliser ∷ []

@@ -2,8 +2,7 @@
 --
 -- A mutator uses the objects that its roots reach. The collector uses more. While a cycle is marking it scans objects that
 -- the mutators have dropped since the snapshot, and a promotion reads fields of objects that they have dropped in the round.
--- So a name is tracked if the world reaches it, or an earlier world that the collector still uses. That is the snapshot of a
--- marking cycle, or the world as the round began.
+-- So a name is tracked if the world reaches it, or an earlier world that the collector still uses.
 use Rattle.std.specs.Prelude.{List, ◌∷◌, Contains}
 use Rattle.nmgc_world_spec.specs.{declared.value.Name.Name, World.World, Reach.IsReached, Wide.IsWide}
 

@@ -1,8 +1,7 @@
 //! The words of the heap, read and written one at a time.
 //!
-//! At a stop one thread reads and writes all words of the heap, by code that is written once, over this trait. The table of a
-//! run implements it while there is only one seat, and plain lists implement it for tests. A load borrows the heap mutably,
-//! since a seat of the table learns from it.
+//! At a stop one thread reads and writes all words of the heap, by code over this trait. A run's table implements it while
+//! there is only one seat, and plain lists implement it for tests. A load is mutable, since it changes a view.
 ghost use Rattle.std.specs.Prelude.{◌≡◌, ◌<◌, ℕ, List, length, set, slice_index};
 
 use nmgc_lists::List;

@@ -4,9 +4,8 @@
 //! the queues. The stop also needs the nursery, and the lists that the round left. All of this lies in the mutators, which
 //! are defined above this crate. So a stop's code goes over the mutators by this trait, and takes nothing out of them.
 //!
-//! Easy to get wrong: a change of the registers leaves the queue as it is, a change of the queue leaves the registers, and
-//! neither changes nursery or lists. The trait's laws say so. Without them a caller that doesn't know the type would know
-//! nothing of one part once another was changed.
+//! Easy to get wrong: a change of the registers leaves the queue, a change of the queue leaves the registers, and neither
+//! changes nursery or lists. The trait's laws say so. Without them a generic caller would know nothing of the other parts.
 ghost use Rattle.std.specs.{Prelude.◌≡◌, Prelude.ℕ, Prelude.List, Prelude.[], Prelude.length, Borrow.sem, Borrow.Lends, Borrow.Array, Borrow.u64};
 ghost use Rattle.nmgc_object.specs.{FinQueue.FinQueue as Queue, declared.layout.Nursery.Nursery as NurserySeen, declared.words.Address.Address as Place};
 ghost use Rattle.nmgc_object.specs.contracts.fin_queue.FinQueue as queues;
@@ -33,7 +32,7 @@ pub trait MutatorRoots {
     // The mutator with another queue.
     ghost with_queue: { Self → Queue → Self };
 
-    // The mutator with an empty nursery and empty lists of the round.
+    // The mutator with an empty nursery, and without fields recorded and weak pointers made or finalised in the round.
     ghost after_stop: { Self → Self };
 
     /// Returns the field words of the mutator's registers.
@@ -66,8 +65,9 @@ pub trait MutatorRoots {
     fn young_weaks(&self) -> &[Address]
         ensures { result.now ≡ young_weaks self.now };
 
-    /// Empties the mutator's nursery, and the lists that it recorded in the round. Registers and queue stay.
-    fn empty(&mut self)
+    /// Empties the mutator's nursery, its list of recorded fields, and its lists of weak pointers made or finalised in the
+    /// round. Registers, queue and remembered entries stay. No law is about these entries or the finalised weak pointers.
+    fn forget_round(&mut self)
         ensures { self.new ≡ after_stop self.old };
 
     ghost own_registers: { (m : Self) (words : List ℕ) → length words ≡ length (registers m) → registers (with_registers m words) ≡ words };

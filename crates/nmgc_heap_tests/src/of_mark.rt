@@ -85,10 +85,10 @@ fn remembered_places(rt: HostRuntime) -> Result<(), Fail> {
 #[test]
 fn laws_ask_nothing(rt: HostRuntime) {
     let _ = &rt;
-    laws::prepared_heaps_begin();
+    laws::marking_begins_on_prepared_heaps();
     laws::a_round_begins_tied();
     laws::a_round_ends_tied();
-    laws::places_may_grow();
+    laws::a_tie_survives_further_objects();
     laws::marks_are_of_the_snapshot();
     laws::all_reached_is_marked();
     laws::blank_markers_have_room();

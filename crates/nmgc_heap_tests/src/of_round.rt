@@ -223,15 +223,15 @@ fn laws_ask_nothing(rt: HostRuntime) {
     laws::unborn_looks_keep_the_rule();
     laws::allocations_keep_the_rule();
     laws::looks_at_headers_keep_the_rule();
-    laws::scan();
+    laws::scans_keep_the_rule();
     laws::empty_heap_opens();
     laws::old_stacks_are_listed();
-    laws::words_open();
+    laws::openings_keep_the_rule();
     laws::mutator_splits_keep_the_rule();
     laws::collector_splits_keep_the_rule();
     laws::joins_keep_the_rule();
     laws::a_whole_seat_ends_the_round();
-    laws::words_represent();
+    laws::finished_words_represent_a_world();
     laws::replies_are_named();
     laws::events_are_a_history();
     laws::histories_have_the_rows();

@@ -5,7 +5,7 @@ use nmgc_run_laws::laws;
 fn laws_ask_nothing(rt: HostRuntime) {
     let _ = &rt;
     laws::classes_are_counted();
-    laws::run_goes_on();
+    laws::a_run_takes_a_further_round();
     laws::left_is_determined();
     laws::free_segments_are_counted();
     laws::a_version_changes_nothing();
@@ -14,6 +14,6 @@ fn laws_ask_nothing(rt: HostRuntime) {
     laws::places_are_blocks();
     laws::tracked_names_have_blocks();
     laws::cycles_are_in_course();
-    laws::limits_stay();
+    laws::runs_stay_within_limits();
     laws::lawful_reports_are_of_runs();
 }

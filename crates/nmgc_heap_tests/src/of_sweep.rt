@@ -102,7 +102,7 @@ fn place(rt: &impl Abort, names: &mut NameTable, segments: &mut Segments, name: 
 fn begin(rt: &impl Abort, segments: &mut Segments, retired: bool)
     ensures { segments.new.layout ≡ segments.old.layout }
 {
-    laws::counts_agree();
+    laws::counts_show_waiting_and_room();
     if retired {
         segments.retire_all();
     }

@@ -44,8 +44,4 @@ module _ (bytes : List ℕ) (d : Name →
     only = λ other s. taken_is d r (map tokens_of (cut bytes).lines) other (whole_runs none) (only bytes d agrees other s).0 ∙ sym is;
     fault = tt;
   }
-  whole_answer is_yes none (Err f) is lost = record {
-    found = tt;
-    only = λ image s. lost;
-    fault = subst (IsFaultOf bytes) (sym lost) tt;
-  }
+  whole_answer is_yes none (Err f) is lost = record { found = tt; only = λ image s. lost; fault = subst (IsFaultOf bytes) (sym lost) tt }

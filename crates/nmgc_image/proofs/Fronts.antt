@@ -1,5 +1,4 @@
--- Lines are taken while every name counts as declared. If each name that they mention is declared, the same lines are taken
--- in the end.
+-- Lines taken while every name counts as declared. They are taken in the end too if each name that they mention is declared.
 use Rattle.nmgc_image.proofs.Vocabulary.{◌≡◌, ◌≤◌, ◌-◌, ℕ, List, [], ◌∷◌, ◌++◌, map, length, take, drop, refl, sym, ap, subst, ◌∙◌, arith, Bool, true, false, cond, not, codes, eqb, Option, Some, None, ◌&&◌, AllByRecursion, list_all, flat_map, bytes_eq, and_parts, and_from, false≢true, flat_map-append, append-nil, take-append-drop, recursion_from_All, none-some, same_Some, REGISTERS, MAKERS, Name, Value, Nil, Number, Ref, shared_name, held_by, ◌>>=◌, number_at, value_at, bind_some, guard_some, Entry, Reader, first_words, mutator_lines, entry_words, last_words, tokens_of, cut, is_declared, begun, is_open, is_full, first_at, mutator_at, is_above, is_nil, register_at, queue_at, is_after, is_owned, entry_at, next_at, end_at, line_at, start, run, key_of, key_in, keys_in, keys_of, keys_beside, has_key, HaveSame, FindsDeclared, AreTaken, AreRead, AreMentionsIn}
 use Rattle.nmgc_image.proofs.{NodeLaws.IsSpellable, NodeLaws.line_again, Machine.run_step, Taken.spellable, Taken.front_runs, Lines.IsGood, Lines.first_part, Lines.last_part, Lines.lines_so_far, Lines.start_good, Lines.start_lines, Lines.run_goes, Lines.good_part, FirstBad.rec_append, FirstBad.IsOther, FirstBad.other_first, FirstBad.mutators_other, FirstBad.other_last, Keys.keys_find, Keys.finds_same}
 

@@ -34,11 +34,7 @@ key_orders a b va vb le apart = elim (cases_eq (key_of a) (key_of b)) [
 
 module _ (words : List ℕ) (keyed : List Keyed) where
   pub lists_start : ListsObjects words (places_of (take 0 keyed)) []
-  lists_start = record {
-    ordered = tt;
-    sound = λ entry c. absurd (nothing_in entry c);
-    complete = λ at c. absurd (nothing_in at c);
-  }
+  lists_start = record { ordered = tt; sound = λ entry c. absurd (nothing_in entry c); complete = λ at c. absurd (nothing_in at c) }
 
   module _ (nodes : List Entry) (i : ℕ) (d : Keyed) (lt : i < length keyed) (so_far : ListsObjects words (places_of (take i keyed)) nodes) where
     one_more : places_of (take (i + 1) keyed) ≡ places_of (take i keyed) ++ (get_or keyed i d).at ∷ []

@@ -210,11 +210,7 @@ module _ (words : ℕ) (w : World) (image : Image) (few : words ≤ most_object_
             let other : entry.name ≢ shared_name = λ s. ne (ap (λ (n : Name). n.maker) s) in
             (inr (other, made_by entry.name at.0 lt f), subst IsNode (sym at.2) (shown_node words entry.name at.0 few other fits known.sized))
       ] in
-      record {
-        owned = two.0;
-        node = two.1;
-        values = subst (λ (n : Node). All IsValue (held_by n)) (sym at.2) values;
-      }
+      record { owned = two.0; node = two.1; values = subst (λ (n : Node). All IsValue (held_by n)) (sym at.2) values }
 
   -- a value of the image refers to a name of the wide reach
   own_wide : (own : ImageMutator) (name : Name) → Contains image.mutators own → Contains (values_of own) (value.Ref name) → IsWide w name

@@ -64,8 +64,7 @@ IsWeakRoot report at = (number : ℕ) × IsWeakIn report number at
 abbrev pub IsRootPlace : Report → ℕ → Type 0
 IsRootPlace report at = (at ≡ SHARED_PLACE) ⊎ (IsMutatorRoot report.mutators at ⊎ IsWeakRoot report at)
 
--- the report can be searched: an object begins at each reachable address, each block in use has a name that can be read, and
--- the weak pointers' names are valid
+-- the report can be searched: reachable addresses have objects, blocks in use readable names, and weak pointers valid names
 pub record IsReadyFor (report : Report) : Type 0 where
   pub objects : ReachesObjects report.words (IsRootPlace report)
   pub blocks : (number block at : ℕ) → IsBlockAt report.segments number block at → InUse (nth report.segments.segments number) block → IsNamedAt report.words at

@@ -38,7 +38,7 @@ impl Declared {
         self.keys.binary_search(&key).is_ok()
     }
 
-    // Whether the number `key` is at the position that the maker's shift gives. Only true says something about the set.
+    // Whether `key` is at the position that the maker's shift gives. If it isn't, the set may still have it.
     fn is_at_shift(&self, maker: u8, key: u64) -> bool
         ensures { result ≡ true → Contains self.now.keys.items key }
     {
@@ -66,7 +66,8 @@ pub(crate) fn key(name: Name) -> u64
     u64::from(name.maker) * (1 << 32) + u64::from(name.serial)
 }
 
-// Returns the shift of each maker: the position of the maker's first number less that number, modulo 2^64.
+// Returns each maker's shift, for sorted `keys`: the position of the maker's least number minus that number, modulo 2^64. The
+// shift of a maker without numbers is arbitrary.
 fn shifts_of(alloc: Global, keys: &[u64]) -> Result<Vec<u64>, NoMemory> {
     let mut shifts = Vec::new(alloc);
     for maker in 0..MAKERS {
@@ -83,8 +84,8 @@ fn shifts_of(alloc: Global, keys: &[u64]) -> Result<Vec<u64>, NoMemory> {
     Ok(shifts)
 }
 
-// Returns the set of the names whose numbers are `keys`, sorted.
-fn in_order(alloc: Global, keys: Vec<u64>) -> Result<Declared, NoMemory>
+// Sorts the numbers `keys`, and returns the set of the names that they represent.
+fn set_of_keys(alloc: Global, keys: Vec<u64>) -> Result<Declared, NoMemory>
     ensures { IfOk result (λ declared. HaveSame declared.keys.items keys.items) }
 {
     let mut keys = keys;
@@ -93,7 +94,7 @@ fn in_order(alloc: Global, keys: Vec<u64>) -> Result<Declared, NoMemory>
     Ok(Declared { keys, shifts })
 }
 
-// Returns the numbers of the objects' names.
+// Returns the number of each object's name, in the order of `nodes`.
 fn keys_of(alloc: Global, nodes: &[Entry]) -> Result<Vec<u64>, NoMemory>
     ensures { IfOk result (λ keys. keys.items ≡ map (λ entry. key_of entry.name) nodes.now) }
 {
@@ -104,7 +105,7 @@ fn keys_of(alloc: Global, nodes: &[Entry]) -> Result<Vec<u64>, NoMemory>
     Ok(keys)
 }
 
-// Appends the number of the name of each node line of a text.
+// Appends the number of each node line's name to `keys`, for all lines of a text.
 fn push_keys(alloc: Global, keys: &mut Vec<u64>, bytes: &[u8]) -> Result<(), NoMemory>
     ensures { OnOk result (keys.new.items ≡ keys.old.items ++ all_keys (cut bytes.now).lines) }
 {
@@ -118,7 +119,7 @@ fn push_keys(alloc: Global, keys: &mut Vec<u64>, bytes: &[u8]) -> Result<(), NoM
     Ok(())
 }
 
-// Appends the number of a line's name, if the line is a node line.
+// Appends the number of a line's name to `keys` if the line is a node line. Any other line adds nothing.
 fn push_key(alloc: Global, keys: &mut Vec<u64>, tokens: &[&[u8]]) -> Result<(), NoMemory>
     ensures { OnOk result (keys.new.items ≡ keys.old.items ++ keys_in (map (λ w. w.now) tokens.now)) }
 {
@@ -133,20 +134,16 @@ fn push_key(alloc: Global, keys: &mut Vec<u64>, tokens: &[&[u8]]) -> Result<(), 
 }
 
 /// Returns the set of the names of `nodes` and of the node lines of a text.
-pub(crate) fn declared_in(
-    alloc: Global,
-    nodes: &[Entry],
-    bytes: &[u8],
-) -> Result<Declared, NoMemory>
+pub(crate) fn names_in(alloc: Global, nodes: &[Entry], bytes: &[u8]) -> Result<Declared, NoMemory>
     ensures { IfOk result (λ declared. HaveSame declared.keys.items (keys_beside nodes.now (cut bytes.now).lines)) }
 {
     let mut keys = keys_of(alloc, nodes)?;
     push_keys(alloc, &mut keys, bytes)?;
-    in_order(alloc, keys)
+    set_of_keys(alloc, keys)
 }
 
-/// Returns the set of these names.
-pub(crate) fn of_names(alloc: Global, names: &[Name]) -> Result<Declared, NoMemory>
+/// Returns the set of these names. Requires valid names.
+pub(crate) fn set_of_names(alloc: Global, names: &[Name]) -> Result<Declared, NoMemory>
     requires { All IsName names.now }
     ensures { IfOk result (λ declared. IsTestOf (has_key declared.keys.items) names.now) }
 {
@@ -154,5 +151,5 @@ pub(crate) fn of_names(alloc: Global, names: &[Name]) -> Result<Declared, NoMemo
     for name in names {
         keys.push(key(*name))?;
     }
-    in_order(alloc, keys)
+    set_of_keys(alloc, keys)
 }

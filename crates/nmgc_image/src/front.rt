@@ -1,6 +1,5 @@
-//! The lines of a text up to the first that can't be taken.
-//!
-//! Plain node lines are read in one pass, and all other lines by their tokens.
+//! The lines of a text up to the first that may not come next. Plain lines, which are nearly all node lines of constructors,
+//! are read in one pass. All other lines are read by their tokens.
 ghost use Rattle.std.specs.Prelude.{◌≡◌, IfOk};
 ghost use Rattle.nmgc_image.specs.{Known.test_of, Plain.IsPlain, Reading.Advances, Reading.AreRead};
 
@@ -14,8 +13,8 @@ use nmgc_io::cut_tokens;
 use nmgc_lists::NoMemory;
 use std::alloc::Global;
 
-/// Takes the lines of a text up to the first line that can't be taken, which stays, and returns the reader after them. Takes
-/// time proportional to these lines, beside the look-ups of names.
+/// Reads the lines of a text up to the first that may not come next, or to the end. Returns their content; `lines` is then at
+/// that point. Requires that `lines` is at line 1. Takes time proportional to the lines read, beside the look-ups of names.
 pub(crate) fn read_lines(
     alloc: Global,
     known: &Known,
@@ -35,7 +34,7 @@ pub(crate) fn read_lines(
     }
 }
 
-// Takes the next line. `Bad` means exactly that no next line can be taken, and then nothing changes.
+// Takes the next line. `Bad` means that the line may not come next or that there is none; `lines` and `reader` stay then.
 fn take_next<'a>(
     alloc: Global,
     known: &Known,
@@ -53,7 +52,7 @@ fn take_next<'a>(
     }
 }
 
-// Takes the object of a plain node line that was read already, and goes on to the text after that line.
+// Takes `entry`, the object of the next line, and goes on to `after`, the text behind that line. `Bad` as for `take_next`.
 fn take_plain<'a>(
     known: &Known,
     lines: &mut Lines<'a>,
@@ -69,7 +68,7 @@ fn take_plain<'a>(
     Ok(())
 }
 
-// Takes the next line by its tokens.
+// Takes the next line by its tokens, which it collects in `tokens`. `Bad` as for `take_next`.
 fn take_by_tokens<'a>(
     alloc: Global,
     known: &Known,

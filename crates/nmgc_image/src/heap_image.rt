@@ -1,7 +1,5 @@
-//! The image that shows the heap of a report.
-//!
-//! An image has no addresses. So its objects are sorted by their names, and each field that points to an address becomes a
-//! reference to the name at that address.
+//! The image that shows the heap of a report. An image has no addresses: its objects are in order of names, and each field
+//! that points to an address refers to the name there.
 ghost use Rattle.std.specs.Prelude.{◌≡◌, ◌↔◌, ℕ, ◌≤◌, length, map, slice_get, Some, All, IfOk, IsTrue};
 ghost use Rattle.std.specs.List.Sorted.{IsNonDecreasingBy};
 ghost use Rattle.nmgc_limits.specs.declared.mutators.TheConstants.{REGISTERS};
@@ -26,7 +24,7 @@ pub(crate) struct Keyed {
     pub(crate) at: u32,
 }
 
-/// Returns the image that shows the heap of a report.
+/// Returns the image that shows each world that a report's heap represents. Requires a heap as a stop of a run leaves it.
 pub(crate) fn image_of(alloc: Global, report: &Report) -> Result<Image, NoMemory>
     requires { (w : WorldOf) × IsLeftAs report.now w }
     ensures { (w : WorldOf) → IsLeftAs report.now w → IfOk result (λ image. Shows w image) }
@@ -37,7 +35,7 @@ pub(crate) fn image_of(alloc: Global, report: &Report) -> Result<Image, NoMemory
     Ok(Image { mutators, nodes })
 }
 
-// Returns the mutators of an image, each as it shows a mutator of a report.
+// Returns an image's mutators: for each mutator of a report its serial, its queue and its registers that aren't nil.
 fn mutators_of(
     alloc: Global,
     words: &FinalWords,
@@ -55,7 +53,7 @@ fn mutators_of(
     Ok(shown)
 }
 
-// Returns the mutator of an image that shows a mutator of a report.
+// Returns a report's mutator as an image shows it: its serial, its queue and its registers that aren't nil.
 fn own_of(alloc: Global, words: &FinalWords, own: &MutatorEnd) -> Result<ImageMutator, NoMemory>
     requires { CanShowOwn words.now own.now }
     ensures { IfOk result (λ image. ShowsOwn words.now own.now image) }
@@ -68,7 +66,7 @@ fn own_of(alloc: Global, words: &FinalWords, own: &MutatorEnd) -> Result<ImageMu
     })
 }
 
-// Returns the registers that aren't nil, with their numbers and in order.
+// Returns the registers that aren't nil, each with its number, in order of numbers.
 fn held_of(alloc: Global, registers: &[Value]) -> Result<List<Held>, NoMemory>
     requires { length registers.now ≤ REGISTERS }
     ensures { IfOk result (λ held. ListsHeld registers.now held) }
@@ -92,7 +90,7 @@ fn is_nil(value: Value) -> bool
     matches!(value, Value::Nil)
 }
 
-// Returns the objects at these addresses, in order of names.
+// Returns the names and nodes of the objects at these addresses, in order of names and each name once.
 fn nodes_of(alloc: Global, words: &FinalWords, places: &[u32]) -> Result<List<Entry>, NoMemory>
     requires { All (IsReadableObject words.now) places.now }
     ensures { IfOk result (λ nodes. ListsObjects words.now places.now nodes) }
@@ -102,7 +100,7 @@ fn nodes_of(alloc: Global, words: &FinalWords, places: &[u32]) -> Result<List<En
     entries_of(alloc, words, &keyed)
 }
 
-// Returns the objects at these addresses, each as its address and its name as a number.
+// Returns each of these addresses with the name of the object there, as a number.
 fn keyed_of(alloc: Global, words: &FinalWords, places: &[u32]) -> Result<Vec<Keyed>, NoMemory>
     requires { All (IsReadableObject words.now) places.now }
     ensures { IfOk result (λ keyed. keyed.items ≡ map (keyed_at words.now) places.now) }
@@ -115,8 +113,7 @@ fn keyed_of(alloc: Global, words: &FinalWords, places: &[u32]) -> Result<Vec<Key
     Ok(keyed)
 }
 
-// Returns the objects with their nodes, from a list in order of names. If a name had several addresses, its object would
-// still be returned once.
+// Returns the names and nodes of the objects in `keyed`, each name once. Requires that `keyed` is in order of names.
 fn entries_of(alloc: Global, words: &FinalWords, keyed: &[Keyed]) -> Result<List<Entry>, NoMemory>
     requires sorted { IsNonDecreasingBy (λ (object : KeyedOf). object.key) keyed.now }
     requires keyed { All (IsKeyed words.now) keyed.now }

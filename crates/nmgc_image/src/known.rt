@@ -1,8 +1,5 @@
-//! The names that count as declared while a text is read.
-//!
-//! A text is read before it is known which names have node lines, and then every name counts as declared. The mentioned names
-//! are looked up afterwards. If a name has no node line, the text is read once more, and the first line that mentions such a
-//! name is bad.
+//! The names that count as declared while a text is read: at first all, since node lines may come later. Then the mentioned
+//! names are looked up. If one has no node line, the text is read again, and the first line to mention such a name is bad.
 ghost use Rattle.std.specs.{Prelude.◌≡◌, Prelude.true, List.list_all, Option.option_to_list};
 ghost use Rattle.nmgc_world_spec.specs.{Step.shared_name, World.held_by};
 ghost use Rattle.nmgc_image.specs.{Known.test_of, Reading.is_declared, Reading.is_own_in, Reading.is_object_in, Reading.AreMentionsIn};
@@ -29,7 +26,7 @@ pub(crate) fn is_known(known: &Known, name: Name) -> bool
     }
 }
 
-/// Whether the name that a value refers to, if any, counts as declared. Takes no memory.
+/// Whether the name that a value refers to counts as declared. True if the value refers to no name. Takes no memory.
 pub(crate) fn is_value_known(known: &Known, value: Value) -> bool
     ensures { result ≡ is_declared (test_of known.now) value }
 {
@@ -60,6 +57,7 @@ pub(crate) fn is_node_known(known: &Known, node: &Node) -> bool
     }
 }
 
+// Whether the name in a thunk's result counts as declared. True without a result, or without a name in it.
 fn is_result_known(known: &Known, outcome: Option<Value>) -> bool
     ensures { result ≡ list_all (is_declared (test_of known.now)) (option_to_list outcome) }
 {
@@ -69,12 +67,14 @@ fn is_result_known(known: &Known, outcome: Option<Value>) -> bool
     }
 }
 
+// Whether each name to which these values refer counts as declared.
 fn are_values_known(known: &Known, values: &[Value]) -> bool
     ensures { result ≡ list_all (is_declared (test_of known.now)) values.now }
 {
     values.iter().all(|value| is_value_known(known, *value))
 }
 
+// Whether each name to which these registers refer counts as declared.
 fn are_registers_known(known: &Known, registers: &[Held]) -> bool
     ensures { result ≡ list_all (λ held. is_declared (test_of known.now) held.value) registers.now }
 {
@@ -83,18 +83,21 @@ fn are_registers_known(known: &Known, registers: &[Held]) -> bool
         .all(|held| is_value_known(known, held.value))
 }
 
+// Whether each name in a mutator's registers and queue counts as declared.
 fn is_own_known(known: &Known, own: &ImageMutator) -> bool
     ensures { result ≡ is_own_in (test_of known.now) own.now }
 {
     are_registers_known(known, own.registers.items()) && are_values_known(known, own.queue.items())
 }
 
+// Whether each name in the registers and queues of these mutators counts as declared.
 fn are_owns_known(known: &Known, owns: &[ImageMutator]) -> bool
     ensures { result ≡ list_all (is_own_in (test_of known.now)) owns.now }
 {
     owns.iter().all(|own| is_own_known(known, own))
 }
 
+// Whether each name in the current mutator's registers and queue counts as declared. True without a current mutator.
 fn is_current_known(known: &Known, current: &Option<ImageMutator>) -> bool
     ensures { result ≡ list_all (is_own_in (test_of known.now)) (option_to_list current.now) }
 {
@@ -104,19 +107,21 @@ fn is_current_known(known: &Known, current: &Option<ImageMutator>) -> bool
     }
 }
 
+// Whether each name that the nodes of these objects mention counts as declared.
 fn are_objects_known(known: &Known, nodes: &[Entry]) -> bool
     ensures { result ≡ list_all (is_object_in (test_of known.now)) nodes.now }
 {
     nodes.iter().all(|entry| is_node_known(known, &entry.node))
 }
 
+// Whether g counts as declared. True if the end line wasn't read.
 fn is_end_known(known: &Known, ended: bool) -> bool
     ensures { result ≡ true → ended ≡ true → test_of known.now shared_name ≡ true }
 {
     !ended || is_known(known, Name::SHARED)
 }
 
-/// Whether each name mentioned so far is declared. Takes no memory, and time proportional to the lines read.
+/// Whether each name mentioned in the lines read counts as declared. The end line mentions g. Takes no memory.
 pub(crate) fn are_mentions_known(known: &Known, reader: &Reader) -> bool
     ensures { result ≡ true → AreMentionsIn (test_of known.now) reader.now }
 {

@@ -1,18 +1,16 @@
-//! Images of heaps: a heap as text, and read back.
+//! Images of heaps: how a heap is written as text, and read back from it.
 //!
-//! An image has all that can still be reached: the mutators' registers and queues, and each object in their wide reach with
-//! its fields, by names and not by addresses. Its text is one line for each of these. Every image has one spelling, and a
-//! text spells at most one image. So two heaps have the same image exactly if they have the same text, and the image read
-//! back is the image written.
+//! An image shows the mutators' registers and queues, and the objects in their wide reach with their fields. It has names in
+//! place of addresses. Its text has a line for each mutator, register that isn't nil, queue entry and object. Every image has
+//! one spelling, and a text spells at most one image. So two heaps have the same image exactly if they have the same text.
 //!
-//! - `image`: the image. `specs/Image.antt` defines images, `specs/Spelling.antt` their spelling, and `specs/Faults.antt` the
-//!   line that is reported for another text.
-//! - `read`: reading. `front`: the lines up to the first that can't be taken. `text`, `nodes`, `plain`: lines, tokens and
-//!   node lines, constructors' in one pass. `declared`: which names have node lines; `known`: which count as declared
-//!   meanwhile. `reader`: the part read so far, and the next line. `fault`: why an image can't be read.
+//! - `image`: the image. `specs/Image.antt` defines images, `specs/Spelling.antt` their text, `specs/Faults.antt` bad lines.
+//! - `read`: reading. `front`: the lines up to the first bad line. `text`: lines. `nodes`: node lines, by their tokens.
+//!   `plain`: constructors' node lines, in one pass. `declared`: which names have node lines; `known`: which names count as
+//!   declared meanwhile. `reader`: the content of the lines read, and the next line. `fault`: why an image can't be read.
 //! - `laws`: laws of images.
 //! - `write`: the text of an image, and of the image that shows a report's heap. `heap_image`: the image of a heap. `places`,
-//!   `search`: its objects. `objects`: objects read from words.
+//!   `search`: the addresses of its objects. `objects`: objects read from words.
 #![tactic(auto)]
 
 mod declared;

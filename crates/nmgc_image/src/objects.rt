@@ -2,7 +2,7 @@
 //!
 //! The field words of an object are copied to one buffer, which the whole search reuses. The kind determines which words
 //! represent values. A thunk with a result has dropped its free variables, a dead weak pointer all its parts, and a stack the
-//! slots above its depth. Nothing is known of the other words, and they aren't read.
+//! slots above its depth. Nothing is known of the other words. They are copied too, but not taken as values.
 ghost use Rattle.std.specs.Prelude.{◌≡◌, ◌+◌, ◌^◌, ◌≤◌, ◌<◌, ◌/◌, length, map, take, drop, All, IfOk, OnOk, IfSome, IfNone, IsTrue, true, false};
 ghost use Rattle.nmgc_object.specs.{declared.size.TheConstants.HEADER_WORDS as header_words, declared.words.Header.Header as HeaderOf};
 ghost use Rattle.nmgc_image.specs.Objects.{IsNamedAt, IsObjectAt, IsReadable, name_in, value_in, is_pointer, leading, value_words, thunk_words, weak_words, fields_at, value_words_at, begins_unset, made_of, var_of, thunk_of, weak_of, node_read};
@@ -30,7 +30,7 @@ fn header_at(words: &FinalWords, at: u32) -> Header
     header_of(words.word(at as usize))
 }
 
-/// Returns the address that a field word points to, or `None` exactly if it is no pointer.
+/// Returns the address that a field word points to, or `None` exactly if the word is no pointer.
 pub(crate) fn place_in(word: u64) -> Option<u64>
     ensures some { IfSome result (λ at. (is_pointer word ≡ true) × (at ≡ word / 2)) }
     ensures none { IfNone result (is_pointer word ≡ false) }
@@ -127,7 +127,7 @@ fn value_words_of_thunk(fields: &[u64]) -> &[u64]
     }
 }
 
-// Returns the field words of a weak pointer that represent values: all of them, or none if the weak pointer is dead.
+// Returns the field words of a weak pointer that represent values: all three, or none if it is dead or hasn't three fields.
 fn value_words_of_weak(fields: &[u64]) -> &[u64]
     ensures { result.now ≡ weak_words fields.now }
 {
@@ -137,7 +137,7 @@ fn value_words_of_weak(fields: &[u64]) -> &[u64]
     }
 }
 
-// Returns the field words of a stack that represent values: its slots below its depth.
+// Returns the field words of a stack that represent values: those before the first 0, which are the slots below its depth.
 fn value_words_of_stack(fields: &[u64]) -> &[u64]
     ensures { result.now ≡ leading fields.now }
 {
@@ -148,7 +148,7 @@ fn value_words_of_stack(fields: &[u64]) -> &[u64]
     &fields[..depth]
 }
 
-// Whether the first field word is unset. False if there is no field.
+// Whether the first field word is unset, which is 0. False if there is no field.
 fn begins_unset(fields: &[u64]) -> bool
     ensures { result ≡ begins_unset fields.now }
 {
@@ -198,6 +198,7 @@ fn make_node(
     })
 }
 
+// Returns the variable with the first of these values, or with nil if there is none.
 fn make_var(values: &[Value]) -> Node
     ensures { result ≡ var_of values.now }
 {
@@ -207,6 +208,7 @@ fn make_var(values: &[Value]) -> Node
     }
 }
 
+// Returns a thunk: these values are its free variables if its result is unset. Otherwise the first, if any, is its result.
 fn make_thunk(alloc: Global, unset: bool, values: List<Value>) -> Node
     ensures { result ≡ thunk_of unset values }
 {
@@ -222,6 +224,7 @@ fn make_thunk(alloc: Global, unset: bool, values: List<Value>) -> Node
     }
 }
 
+// Returns a weak pointer: alive with three values, its key, value and finaliser, and dead with any other number.
 fn make_weak(values: &[Value]) -> Node
     ensures { result ≡ weak_of values.now }
 {

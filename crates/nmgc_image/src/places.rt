@@ -1,16 +1,15 @@
 //! The addresses of the objects of an image.
 //!
 //! The search begins with g, with the mutators' registers and queues, and with the weak pointers that are alive. A report has
-//! only the names of the weak pointers, so their addresses are searched among the blocks in use. Easy to get wrong: a block
-//! in use may hold an object that isn't reachable any more. Its name can be read, and nothing else of it. So only the name is
-//! read before it is found among the names of the weak pointers.
+//! only the weak pointers' names, so their addresses are searched among the blocks in use. Easy to get wrong: the object in
+//! such a block may be unreachable. Then only its name can be read. So its other words aren't read before it is found.
 ghost use Rattle.std.specs.Prelude.{◌≡◌, ◌↔◌, ℕ, ◌^◌, ◌<◌, length, Contains, IfOk, IsTrue, OnOk};
 ghost use Rattle.nmgc_segment.specs.Segment.{InUse};
 ghost use Rattle.nmgc_alloc.specs.{Numbered.nth, Numbered.HasNumber, Segments.IsBlockAt};
 ghost use Rattle.nmgc_image.specs.{Names.IsTestOf, Objects.name_in, Reading.has_key};
 ghost use Rattle.nmgc_image.specs.Reaching.{Reaches, IsSearch, Visits, ArePointers, IsOwnRoot, IsMutatorRoot, IsWeakBlock, IsWeakIn, IsWeakRoot, IsRootPlace, IsReadyFor};
 
-use crate::declared::{Declared, of_names};
+use crate::declared::{Declared, set_of_names};
 use crate::objects::name_at;
 use crate::search::Search;
 use nmgc_journal::{MutatorEnd, Report};
@@ -19,7 +18,7 @@ use nmgc_object::SHARED_PLACE;
 use nmgc_segment::{Segment, State};
 use std::alloc::Global;
 
-/// Returns the addresses of the objects that an image of the report has, in no order.
+/// Returns the addresses of all objects that the image of a report has, in no particular order.
 pub(crate) fn places_of(alloc: Global, report: &Report) -> Result<Vec<u32>, NoMemory>
     requires { IsReadyFor report.now }
     ensures { IfOk result (λ places. (at : ℕ) → Contains places.items at ↔ Reaches report.now.words (IsRootPlace report.now) at) }
@@ -30,7 +29,7 @@ pub(crate) fn places_of(alloc: Global, report: &Report) -> Result<Vec<u32>, NoMe
     Ok(search.order)
 }
 
-// Adds the roots to the search: the shared array, the mutators' roots and the weak pointers.
+// Adds the roots' addresses to the search: g, the objects in the mutators' registers and queues, and the weak pointers.
 fn visit_roots(alloc: Global, search: &mut Search, report: &Report) -> Result<(), NoMemory>
     requires sound { IsSearch search.old }
     requires room { length search.old.seen.items ≡ length report.now.words }
@@ -82,14 +81,14 @@ fn visit_queue(search: &mut Search, own: &MutatorEnd) -> Result<(), NoMemory>
     search.visit_words(own.queue.items())
 }
 
-// Adds the addresses of the weak pointers to the search.
+// Adds to the search the addresses of the weak pointers that the report lists.
 fn visit_weaks(alloc: Global, search: &mut Search, report: &Report) -> Result<(), NoMemory>
     requires sound { IsSearch search.old }
     requires room { length search.old.seen.items ≡ length report.now.words }
     requires ready { IsReadyFor report.now }
     ensures { OnOk result (Visits (IsWeakRoot report.now) search.old search.new) }
 {
-    let weaks = of_names(alloc, report.weaks.items())?;
+    let weaks = set_of_names(alloc, report.weaks.items())?;
     if weaks.is_empty() {
         return Ok(());
     }
@@ -99,7 +98,7 @@ fn visit_weaks(alloc: Global, search: &mut Search, report: &Report) -> Result<()
     Ok(())
 }
 
-// Adds the addresses of the weak pointers in the blocks of a segment to the search.
+// Adds to the search the addresses of a segment's blocks in use whose names are in `weaks`, the report's weak pointers.
 fn visit_segment(
     search: &mut Search,
     report: &Report,
@@ -133,7 +132,7 @@ fn is_free(segment: &Segment) -> bool
     segment.state() == State::Free
 }
 
-// Adds the address of a block in use to the search, if the report lists its name as a weak pointer.
+// Adds to the search the address of a block in use, if the name there is in `weaks`, the report's weak pointers.
 fn visit_block(
     search: &mut Search,
     report: &Report,

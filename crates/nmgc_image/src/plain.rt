@@ -1,8 +1,7 @@
-//! Node lines that are read in one pass.
-//!
-//! Most objects are constructors, and so most lines of a long image are theirs. Such a line is read from its first byte to
-//! its last, and is never cut into tokens. Every line that isn't read so, of another kind or bad, is left to `nodes`, which
-//! reads any line by its tokens. Easy to get wrong: a number with a leading zero is the text of no number.
+//! Node lines that are read in one pass. Most objects are constructors. So nearly all of their lines, which are most lines of
+//! a long image, are read once, byte by byte, without being cut into tokens. `front` takes all other lines by their tokens:
+//! of another kind, bad, or a constructor's with `g` or a number of more than eighteen digits. Easy to get wrong: a number
+//! with a leading zero is the text of no number.
 ghost use Rattle.std.specs.Prelude.{◌≡◌, ◌+◌, ◌^◌, ◌<◌, ◌++◌, ◌∷◌, codes, decimal, length, map, All, IfOk, IfSome, OnOk};
 ghost use Rattle.nmgc_journal.specs.Text.{IsValue, name_text, value_text};
 ghost use Rattle.nmgc_object.specs.Words.{IsName};
@@ -35,7 +34,7 @@ impl<'a> Cursor<'a> {
         Cursor { rest: bytes }
     }
 
-    /// Reads a plain node line with its line feed, and returns its object.
+    /// Reads the node line of a constructor, with its line feed, and returns the object.
     pub(crate) fn entry(&mut self, alloc: Global) -> Result<Entry, LineFault>
         ensures { IfOk result (λ entry. IsPlain self.old.rest.now entry self.new.rest.now) }
     {
@@ -45,7 +44,7 @@ impl<'a> Cursor<'a> {
         Ok(Entry { name, node })
     }
 
-    // Reads the tokens of a constructor up to the line feed, which is passed too, and returns the node.
+    // Reads the tokens of a constructor from `con` on, with the space before and the line feed, and returns the node.
     fn con(&mut self, alloc: Global) -> Result<Node, LineFault>
         ensures { IfOk result (λ node. IsPlainNode self.old.rest.now node self.new.rest.now) }
     {
@@ -64,7 +63,7 @@ impl<'a> Cursor<'a> {
         })
     }
 
-    // Reads values up to the line feed, which is passed too, and returns them. Two values lie in the list itself.
+    // Reads values, each behind a space, and the line feed, and returns the values. Two values take no memory (`List::pair`).
     fn values(&mut self, alloc: Global) -> Result<List<Value>, LineFault>
         ensures text { IfOk result (λ values. self.old.rest.now ≡ after_spaces (map value_text values) ++ 10 ∷ self.new.rest.now) }
         ensures valid { IfOk result (λ values. All IsValue values) }
@@ -77,7 +76,7 @@ impl<'a> Cursor<'a> {
         self.any_values(alloc)
     }
 
-    // Reads two values and the line feed, and returns the values.
+    // Reads two values, each behind a space, and the line feed, and returns the values.
     fn pair(&mut self, alloc: Global) -> Result<List<Value>, LineFault>
         ensures text { IfOk result (λ values. self.old.rest.now ≡ after_spaces (map value_text values) ++ 10 ∷ self.new.rest.now) }
         ensures valid { IfOk result (λ values. All IsValue values) }
@@ -88,7 +87,7 @@ impl<'a> Cursor<'a> {
         Ok(List::pair(alloc, first, second))
     }
 
-    // Reads any number of values and the line feed, and returns the values.
+    // Reads any number of values, each behind a space, and the line feed, and returns the values.
     fn any_values(&mut self, alloc: Global) -> Result<List<Value>, LineFault>
         ensures text { IfOk result (λ values. self.old.rest.now ≡ after_spaces (map value_text values) ++ 10 ∷ self.new.rest.now) }
         ensures valid { IfOk result (λ values. All IsValue values) }
@@ -111,6 +110,7 @@ impl<'a> Cursor<'a> {
         self.value()
     }
 
+    // Reads and returns a value: `nil`, a number, or the name of an object that a mutator made.
     fn value(&mut self) -> Result<Value, LineFault>
         ensures text { IfOk result (λ value. self.old.rest.now ≡ value_text value ++ self.new.rest.now) }
         ensures valid { IfOk result (λ value. IsValue value) }
@@ -127,7 +127,7 @@ impl<'a> Cursor<'a> {
         Ok(Value::Number(number))
     }
 
-    // Reads the name of an object that a mutator made, and returns it.
+    // Reads and returns the name of an object that a mutator made: maker, dot and serial.
     fn name(&mut self) -> Result<Name, LineFault>
         ensures text { IfOk result (λ name. self.old.rest.now ≡ name_text name ++ self.new.rest.now) }
         ensures valid { IfOk result (λ name. IsName name) }
@@ -136,7 +136,7 @@ impl<'a> Cursor<'a> {
         self.name_of(maker)
     }
 
-    // Reads the rest of a name after its maker, and returns the name.
+    // Reads the dot and the serial of a name after its maker, and returns the name.
     fn name_of(&mut self, maker: u64) -> Result<Name, LineFault>
         ensures text { IfOk result (λ name. decimal maker ++ self.old.rest.now ≡ name_text name ++ self.new.rest.now) }
         ensures valid { IfOk result (λ name. IsName name) }
@@ -155,8 +155,7 @@ impl<'a> Cursor<'a> {
         })
     }
 
-    // Reads a number and returns it. `Bad` is also returned for a leading zero, and for more than eighteen digits, which the
-    // numbers of an image seldom have.
+    // Reads and returns a number. `Bad` also means a leading zero, or more than eighteen digits, which are rare.
     fn number(&mut self) -> Result<u64, LineFault>
         ensures text { IfOk result (λ number. self.old.rest.now ≡ decimal number ++ self.new.rest.now) }
         ensures small { IfOk result (λ number. number < 10 ^ 18) }
@@ -246,7 +245,7 @@ fn begins(bytes: &[u8], byte: u8) -> bool {
     }
 }
 
-// Returns the value of the first byte as a digit, and the bytes after it. Returns `None` if the first byte is no digit.
+// Returns the value of the first byte as a digit, and the bytes after it. Returns `None` if no digit comes first.
 #[inline(always)]
 fn digit(bytes: &[u8]) -> Option<(u64, &[u8])>
     ensures digit { IfSome result (λ parts. parts.0 < 10) }

@@ -4,11 +4,11 @@ ghost use Rattle.nmgc_world_spec.specs.declared.value.Name.{Name as NameOf};
 ghost use Rattle.nmgc_image.specs.{Faults.IsFaultOf, Known.test_of, Reading.AreRead, Reading.IsAnswer, Reading.image_of, Reading.FindsDeclared, Spelling.Spells, Text.cut, declared.image.Image.Image as Spelled};
 
 use crate::ImageFault;
-use crate::declared::declared_in;
+use crate::declared::names_in;
 use crate::front::read_lines;
 use crate::image::Image;
 use crate::known::{Known, are_mentions_known};
-use crate::reader::{Reader, all_of};
+use crate::reader::{Reader, all_mutators};
 use crate::text::Lines;
 use std::alloc::Global;
 
@@ -17,13 +17,13 @@ pub const MAX_IMAGE_BYTES: usize = 268_435_456;
 
 const _: () = prove!(MAX_IMAGE_BYTES <= 1 << 31);
 
-/// Returns the image that a text spells, from the text alone. `Bad` reports the first bad line, from 1, by a definition that
-/// the reader doesn't share; if the text ends too early, it is the line after the last. Requires a text that is short enough
-/// for its lines to be counted in 32 bits.
+/// Returns the image that a text spells. Otherwise `Bad` reports the first bad line, numbered from 1, or the line after the
+/// last if the text ends too early. `specs/Faults` defines bad lines without this code. Requires at most 2^31 bytes, so that
+/// lines can be counted in 32 bits.
 /// Takes time proportional to the text, and for a look-up of each name that it mentions. A look-up is one step if the serials
-/// of the name's maker are consecutive, and otherwise a binary search. A text that mentions a name without a node line before
-/// its first bad line is read twice, with the memory of both readings. The names of node lines behind a bad line are sorted.
-/// Takes memory for the image, and 8 bytes for each node line.
+/// of the name's maker are consecutive, and otherwise a binary search. If a name without a node line is mentioned before any
+/// other bad line, the text is read twice, with the memory of both readings. The names of node lines behind a bad line are
+/// sorted. Takes memory for the image, and 8 bytes for each node line.
 pub fn read_image(alloc: Global, bytes: &[u8]) -> Result<Image, ImageFault>
     requires { length bytes.now ≤ 2 ^ 31 }
     // The bytes spell the image that is read.
@@ -36,7 +36,7 @@ pub fn read_image(alloc: Global, bytes: &[u8]) -> Result<Image, ImageFault>
     read(alloc, bytes)
 }
 
-// Returns the image that a text spells, or its first bad line. Reads it twice only if a mentioned name isn't declared.
+// Returns the image that a text spells, or the text's first bad line. Reads the text again only if a name isn't declared.
 fn read(alloc: Global, bytes: &[u8]) -> Result<Image, ImageFault>
     requires { length bytes.now ≤ 2 ^ 31 }
     ensures { IsAnswer bytes.now result }
@@ -44,7 +44,7 @@ fn read(alloc: Global, bytes: &[u8]) -> Result<Image, ImageFault>
     let mut lines = Lines::new(bytes);
     let every = Known::Every;
     let reader = read_lines(alloc, &every, &mut lines)?;
-    let declared = declared_in(alloc, reader.nodes.items(), lines.rest)?;
+    let declared = names_in(alloc, reader.nodes.items(), lines.rest)?;
     let known = Known::Of(declared);
     if are_mentions_known(&known, &reader) {
         return answer(reader, &lines);
@@ -52,7 +52,7 @@ fn read(alloc: Global, bytes: &[u8]) -> Result<Image, ImageFault>
     read_again(alloc, &known, bytes)
 }
 
-// Returns the image that a text spells, or its first bad line. `known` are the names with node lines in the text.
+// Returns the image that a text spells, or its first bad line. Requires that `known` is the set of the names with node lines.
 fn read_again(alloc: Global, known: &Known, bytes: &[u8]) -> Result<Image, ImageFault>
     requires small { length bytes.now ≤ 2 ^ 31 }
     requires agrees { FindsDeclared (test_of known.now) (cut bytes.now).lines }
@@ -63,7 +63,7 @@ fn read_again(alloc: Global, known: &Known, bytes: &[u8]) -> Result<Image, Image
     answer(reader, &lines)
 }
 
-// Returns the image or the first bad line of a text whose lines were taken as far as possible.
+// Returns the image whose lines `reader` took, or the bad line at which `lines` stopped if the text wasn't read whole.
 fn answer(reader: Reader, lines: &Lines) -> Result<Image, ImageFault>
     ensures { (bytes : List ℕ) (d : NameOf → Bool) → FindsDeclared d (cut bytes).lines → AreRead d bytes reader lines.now.number lines.now.rest.now →
         IsAnswer bytes result }
@@ -81,12 +81,12 @@ fn is_whole(reader: &Reader, rest: &[u8]) -> bool
     reader.ended && rest.is_empty()
 }
 
-// Returns the image that the reader's lines make up.
+// Returns the image that has the mutators and objects of the lines taken.
 fn image_of(reader: Reader) -> Result<Image, ImageFault>
     ensures ok { IfOk result (λ image. image ≡ image_of reader) }
     ensures err { IfErr result (λ fault. fault ≡ ImageFault.NoMemory) }
 {
-    let mutators = all_of(reader.done, reader.current)?;
+    let mutators = all_mutators(reader.done, reader.current)?;
     Ok(Image {
         mutators,
         nodes: reader.nodes,

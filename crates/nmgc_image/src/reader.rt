@@ -1,8 +1,5 @@
-//! The part of an image read so far, and the next line.
-//!
-//! A line has one of six kinds, by its first token, and is allowed only if the lines before it leave room for it. Its effect
-//! is a function of the part read and of the names that count. So a text spells at most one image without an argument of its
-//! own.
+//! The part of an image read so far, and the next line. A line has one of six kinds, by its first token. Whether it is
+//! allowed, and its effect, depend only on the part read and on the names in `known`. So a text spells at most one image.
 ghost use Rattle.std.specs.Prelude.{◌≡◌, ◌++◌, ◌==◌, ◌&&◌, map, length, not, slice_get, IfOk, OnOk};
 ghost use Rattle.std.specs.{List.list_all, Option.option_to_list, Option.option_copied};
 ghost use Rattle.nmgc_world_spec.specs.World.{held_by};
@@ -19,8 +16,7 @@ use nmgc_world_spec::{Name, Node, Value};
 use std::alloc::Global;
 use std::mem;
 
-/// The content of the lines so far: the announced number of mutators, the mutators that are done and the current one, the
-/// objects, and whether the end line came.
+/// The lines taken: the announced number of mutators, those that are done, the current one, the objects, whether `end` came.
 #[derive(Drop)]
 pub(crate) struct Reader {
     pub(crate) expected: u8,
@@ -31,7 +27,7 @@ pub(crate) struct Reader {
 }
 
 impl Reader {
-    /// Returns the reader before the first line. Takes no memory.
+    /// Returns a reader that has taken no line yet. Takes no memory.
     pub(crate) fn new(alloc: Global) -> Self
         ensures { result ≡ start }
     {
@@ -44,7 +40,7 @@ impl Reader {
         }
     }
 
-    /// Takes the next line, by its tokens. After `Bad` the reader stays as it is.
+    /// Takes the next line, by its tokens. `Bad` means that this line may not come next; the reader is unchanged then.
     #[tactic(auto, unfolding(crate::specs::Reading::line_at))]
     pub(crate) fn take_line(
         &mut self,
@@ -67,7 +63,7 @@ impl Reader {
             return self.take_register(known, rest);
         }
         if *word == b"queue".as_slice() {
-            return self.take_entry(known, rest);
+            return self.take_queue_entry(known, rest);
         }
         if *word == b"node".as_slice() {
             return self.take_node(alloc, known, rest);
@@ -85,18 +81,21 @@ impl Reader {
         self.done.items().len() + usize::from(self.current.is_some())
     }
 
+    // Whether no object and no end line has come yet. Only then may a mutator, a register or a queue entry come next.
     fn is_open(&self) -> bool
         ensures { result ≡ is_open self.now }
     {
         self.nodes.items().is_empty() && !self.ended
     }
 
+    // Whether all announced mutators have begun, and the end line hasn't come. False before the first line.
     fn is_full(&self) -> bool
         ensures { result ≡ is_full self.now }
     {
         self.expected > 0 && self.count() == self.expected as usize && !self.ended
     }
 
+    // Takes the first line, by the tokens after `image`: version 1, and the number of mutators, from 1 to `MAKERS`.
     #[tactic(auto, unfolding(crate::specs::Reading::first_at))]
     fn take_first(&mut self, words: &[&[u8]]) -> Result<(), LineFault>
         ensures { Takes result self.old self.new (first_at self.old (map (λ w. w.now) words.now)) }
@@ -115,6 +114,7 @@ impl Reader {
         Ok(())
     }
 
+    // Takes the line that begins the next mutator, by the tokens after `mutator`: its number and its serial.
     #[tactic(auto, unfolding(crate::specs::Reading::mutator_at))]
     fn take_mutator(&mut self, alloc: Global, words: &[&[u8]]) -> Result<(), LineFault>
         ensures { Takes result self.old self.new (mutator_at self.old (map (λ w. w.now) words.now)) }
@@ -141,7 +141,7 @@ impl Reader {
         Ok(())
     }
 
-    // Makes `own` the current mutator, after the mutators that have begun.
+    // Makes `own` the current mutator. The mutator that was current until now, if any, is done.
     fn begin(&mut self, own: ImageMutator) -> Result<(), NoMemory>
         ensures { OnOk result (self.new ≡ begins self.old own) }
     {
@@ -152,6 +152,7 @@ impl Reader {
         Ok(())
     }
 
+    // Takes a line with the current mutator's next register, by the tokens after `register`: its number and its value.
     #[tactic(auto, unfolding(crate::specs::Reading::register_at))]
     fn take_register(&mut self, known: &Known, words: &[&[u8]]) -> Result<(), LineFault>
         ensures { Takes result self.old self.new (register_at (test_of known.now) self.old (map (λ w. w.now) words.now)) }
@@ -173,12 +174,13 @@ impl Reader {
         let Some(own) = mem::replace(&mut self.current, None) else {
             return Err(LineFault::Bad);
         };
-        self.current = Some(holding(own, Held { register, value })?);
+        self.current = Some(with_register(own, Held { register, value })?);
         Ok(())
     }
 
+    // Takes a line with the next entry of the current mutator's queue, by the tokens after `queue`: the value.
     #[tactic(auto, unfolding(crate::specs::Reading::queue_at))]
-    fn take_entry(&mut self, known: &Known, words: &[&[u8]]) -> Result<(), LineFault>
+    fn take_queue_entry(&mut self, known: &Known, words: &[&[u8]]) -> Result<(), LineFault>
         ensures { Takes result self.old self.new (queue_at (test_of known.now) self.old (map (λ w. w.now) words.now)) }
     {
         let [word] = words else {
@@ -197,10 +199,11 @@ impl Reader {
         let Some(own) = mem::replace(&mut self.current, None) else {
             return Err(LineFault::Bad);
         };
-        self.current = Some(queueing(own, value)?);
+        self.current = Some(with_queue_entry(own, value)?);
         Ok(())
     }
 
+    // Takes a node line, by the tokens after `node`: the name and the node of the next object.
     #[tactic(auto, unfolding(crate::specs::Reading::next_at))]
     fn take_node(&mut self, alloc: Global, known: &Known, words: &[&[u8]]) -> Result<(), LineFault>
         ensures { Takes result self.old self.new (next_at (test_of known.now) self.old (map (λ w. w.now) words.now)) }
@@ -209,7 +212,7 @@ impl Reader {
         self.take_object(known, entry)
     }
 
-    /// Takes an object if it may come next. Otherwise returns `Bad`, and the reader stays as it is.
+    /// Adds an object if it may come next. Otherwise returns `Bad`, and the reader stays as it is.
     pub(crate) fn take_object(&mut self, known: &Known, entry: Entry) -> Result<(), LineFault>
         ensures { Takes result self.old self.new (object_at (test_of known.now) self.old entry) }
     {
@@ -220,6 +223,7 @@ impl Reader {
         Ok(())
     }
 
+    // Takes the end line, if it is the first, has no token after `end`, all mutators have begun, and g counts as declared.
     #[tactic(auto, unfolding(crate::specs::Reading::end_at))]
     fn take_end(&mut self, known: &Known, words: &[&[u8]]) -> Result<(), LineFault>
         ensures { Takes result self.old self.new (end_at (test_of known.now) self.old (map (λ w. w.now) words.now)) }
@@ -234,7 +238,8 @@ impl Reader {
         Ok(())
     }
 
-    // Whether an object may come next.
+    // Whether an object may come next: after all mutators and before the end line, in order of names, with the right owner
+    // and known names.
     fn can_take(&self, known: &Known, entry: &Entry) -> bool
         ensures { result ≡ can_follow (test_of known.now) self.now entry.now }
     {
@@ -269,8 +274,8 @@ impl Reader {
     }
 }
 
-// Returns the mutators that are done and after them the current mutator, if there is one.
-pub(crate) fn all_of(
+// Returns all mutators that have begun: those that are done and then the current mutator, if there is one.
+pub(crate) fn all_mutators(
     done: List<ImageMutator>,
     current: Option<ImageMutator>,
 ) -> Result<List<ImageMutator>, NoMemory>
@@ -283,7 +288,7 @@ pub(crate) fn all_of(
     Ok(all)
 }
 
-// Whether a mutator may have this register next.
+// Whether a mutator may have this register next: not nil, above its registers so far, and before its queue.
 fn can_hold(own: &ImageMutator, register: u8, value: Value) -> bool
     ensures { result ≡ ((length own.now.queue == 0) && is_above own.now.registers register && not (is_nil value)) }
 {
@@ -292,7 +297,7 @@ fn can_hold(own: &ImageMutator, register: u8, value: Value) -> bool
         && !matches!(value, Value::Nil)
 }
 
-// Whether a register comes after all these registers, which are in order.
+// Whether a register comes after the last of these registers. True if there are none.
 fn is_above(registers: &[Held], register: u8) -> bool
     ensures { result ≡ is_above registers.now register }
 {
@@ -302,7 +307,8 @@ fn is_above(registers: &[Held], register: u8) -> bool
     }
 }
 
-fn holding(own: ImageMutator, held: Held) -> Result<ImageMutator, NoMemory>
+// Returns the mutator with `held` as its last register.
+fn with_register(own: ImageMutator, held: Held) -> Result<ImageMutator, NoMemory>
     ensures { IfOk result (λ more. more ≡ with_register own held) }
 {
     let ImageMutator {
@@ -318,7 +324,8 @@ fn holding(own: ImageMutator, held: Held) -> Result<ImageMutator, NoMemory>
     })
 }
 
-fn queueing(own: ImageMutator, value: Value) -> Result<ImageMutator, NoMemory>
+// Returns the mutator with `value` as the last entry of its queue.
+fn with_queue_entry(own: ImageMutator, value: Value) -> Result<ImageMutator, NoMemory>
     ensures { IfOk result (λ more. more ≡ with_entry own value) }
 {
     let ImageMutator {
@@ -334,7 +341,7 @@ fn queueing(own: ImageMutator, value: Value) -> Result<ImageMutator, NoMemory>
     })
 }
 
-/// Whether a name comes after the names of all these objects, which are in order.
+/// Whether a name comes after the name of the last of these objects. True if there are none.
 pub(crate) fn is_after(nodes: &[Entry], name: Name) -> bool
     ensures { result ≡ is_after nodes.now name }
 {
@@ -344,6 +351,7 @@ pub(crate) fn is_after(nodes: &[Entry], name: Name) -> bool
     }
 }
 
+// Whether the name `a` is before the name `b`: by their makers, and for the same maker by their serials.
 fn is_before(a: Name, b: Name) -> bool
     ensures { result ≡ is_before a b }
 {

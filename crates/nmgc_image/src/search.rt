@@ -1,8 +1,6 @@
-//! The search for the objects of an image.
-//!
-//! It goes over addresses, since a pointer gives an address. Each address is seen once, and joins the order once, when it is
-//! found. The object at it is read once. So the search takes time proportional to the words that it reads, and a byte for
-//! each word of the heap.
+//! The search for the objects of an image. It goes over addresses, since a pointer gives an address. Each address joins the
+//! order once, when it is found, and the object there is read once. So the search takes time proportional to the words that
+//! it reads, and a byte for each word of the heap.
 ghost use Rattle.std.specs.Prelude.{◌≡◌, ◌⊎◌, ◌↔◌, ℕ, ◌<◌, [], length, replicate, false, All, Contains, IfOk, OnOk};
 ghost use Rattle.nmgc_image.specs.{Objects.IsObjectAt, Objects.pointers, Objects.value_words_at, Reaching.Reaches, Reaching.ReachesObjects, Reaching.IsSearch, Reaching.Visits, Reaching.ArePointers, Reaching.PointWithin};
 
@@ -19,7 +17,7 @@ pub(crate) struct Search {
 }
 
 impl Search {
-    /// Makes a search over a heap of `words` words that hasn't found any address yet.
+    /// Returns a search over a heap of `words` words that has found no address yet.
     pub(crate) fn new(alloc: Global, words: usize) -> Result<Self, NoMemory>
         ensures sound { IfOk result IsSearch }
         ensures none { IfOk result (λ s. s.order.items ≡ []) }
@@ -58,7 +56,7 @@ impl Search {
         Ok(())
     }
 
-    // Adds the addresses to which the values of the object at an address point.
+    // Adds the addresses to which the values of the object at `at` point. `buffer` is for its field words.
     fn expand(&mut self, words: &FinalWords, at: u32, buffer: &mut Vec<u64>) -> Result<(), NoMemory>
         requires sound { IsSearch self.old }
         requires object { IsObjectAt words.now at }

@@ -1,6 +1,4 @@
-//! The text of an image.
-//!
-//! It is appended line by line, from left to right, so no line is built separately and no piece is moved.
+//! The text of an image. It is appended line by line, so no line is built separately and no piece is moved.
 ghost use Rattle.std.specs.Prelude.{◌≡◌, ◌∷◌, [], ◌++◌, map, IfOk, OnOk};
 ghost use Rattle.nmgc_journal.specs.Text.{value_text};
 ghost use Rattle.nmgc_world_spec.specs.World.{World as WorldOf};
@@ -16,11 +14,10 @@ use nmgc_lists::NoMemory;
 use nmgc_world_spec::{Node, Parts, Value};
 use std::alloc::Global;
 
-/// Returns the text of the image that shows the heap of a report: the mutators' registers and queues, and all that can still
-/// be reached. The image shows each world that the heap represents. Requires a heap as a stop of a run leaves it. Takes time
-/// proportional to the heap and the text. Further time goes to a sort of the objects by their names and, if there are weak
-/// pointers, a look-up of a name for each block in use. Takes memory for the image, for the text, for a byte a word of the
-/// heap and for 24 bytes an object.
+/// Returns the text of the image that shows the heap of a report: the mutators' registers and queues, and the objects in the
+/// wide reach. The image shows each world that the heap represents. Requires a heap as a stop of a run leaves it. Takes time
+/// proportional to heap and text, for a sort of the objects by name and, with weak pointers, for a look-up of a name for each
+/// block in use. Takes memory for the image, the text, a byte for each word of the heap and 24 bytes for each object.
 pub fn write_image(alloc: Global, report: &Report) -> Result<Vec<u8>, NoMemory>
     requires { (w : WorldOf) × IsLeftAs report.now w }
     ensures { IfOk result (λ text. (w : WorldOf) → IsLeftAs report.now w → (image : ImageOf) × Shows w image × Spells text.items image) }
@@ -29,8 +26,7 @@ pub fn write_image(alloc: Global, report: &Report) -> Result<Vec<u8>, NoMemory>
     image_text(alloc, &image)
 }
 
-/// Returns the text of an image, for every image. Takes memory for the text alone, which grows by doubling, and time
-/// proportional to the text.
+/// Returns the text of any image. Takes memory only for the text, which grows by doubling, and time proportional to the text.
 pub fn image_text(alloc: Global, image: &Image) -> Result<Vec<u8>, NoMemory>
     ensures { IfOk result (λ text. text.items ≡ image_text image.now) }
 {
@@ -42,7 +38,7 @@ pub fn image_text(alloc: Global, image: &Image) -> Result<Vec<u8>, NoMemory>
     Ok(out)
 }
 
-// Appends a text.
+// Appends `text` to `out`.
 fn push_text(out: &mut Vec<u8>, text: &[u8]) -> Result<(), NoMemory>
     ensures { OnOk result (out.new.items ≡ out.old.items ++ text.now) }
 {
@@ -117,6 +113,7 @@ fn push_queue(out: &mut Vec<u8>, queue: &[Value]) -> Result<(), NoMemory>
     Ok(())
 }
 
+// Appends the line of an entry of a queue.
 fn push_queued(out: &mut Vec<u8>, value: Value) -> Result<(), NoMemory>
     ensures { OnOk result (out.new.items ≡ out.old.items ++ (spaced (queue_words value) ++ 10 ∷ [])) }
 {

@@ -7,12 +7,12 @@ abbrev pub onto_first : ℕ → List (List ℕ) → List (List ℕ)
 onto_first b [] = (b ∷ []) ∷ []
 onto_first b (part ∷ parts) = (b ∷ part) ∷ parts
 
--- the lines of a text, each ended by a line feed, which the last line may lack
+-- the lines of a text, without the line feeds that end them; the last line may lack its line feed
 abbrev pub lines_of : List ℕ → List (List ℕ)
 lines_of [] = []
 lines_of (b ∷ bytes) = if b == 10 then [] ∷ lines_of bytes else onto_first b (lines_of bytes)
 
--- the tokens of a line, cut at each single space
+-- the tokens of a line, cut at each single space; an empty line has one empty token
 abbrev pub tokens_of : List ℕ → List (List ℕ)
 tokens_of [] = [] ∷ []
 tokens_of (b ∷ bytes) = if b == 32 then [] ∷ tokens_of bytes else onto_first b (tokens_of bytes)
@@ -22,7 +22,7 @@ abbrev pub is_blank_or_comment : List ℕ → Bool
 is_blank_or_comment [] = true
 is_blank_or_comment (b ∷ bytes) = b == 35
 
--- the line of these tokens
+-- the line that tokens spell, with one space between neighbours
 abbrev pub spaced : List (List ℕ) → List ℕ
 spaced tokens = join_with_byte 32 tokens
 

@@ -1,10 +1,8 @@
 //! Bytes cut at their first separator.
 //!
-//! Scripts, images, names and journals are cut into lines and tokens here. Each of their bytes is compared to find the end of
-//! a line. So sixteen bytes are compared at once while sixteen are left, and the rest one by one.
-//!
-//! Easy to get wrong: if the separator isn't found, nothing is cut, and only the caller knows whether the rest is a last
-//! part.
+//! Scripts, images, names and journals are cut into lines and tokens here. To find the end of a line, each of its bytes is
+//! compared. So sixteen bytes are compared at once while sixteen are left, and the rest one by one. Easy to get wrong: if the
+//! separator isn't found, nothing is cut, and only the caller knows whether the rest is a last part.
 ghost use Rattle.std.specs.Prelude.{◌≡◌, ◌≢◌, ℕ, ◌+◌, ◌<◌, ◌≤◌, ◌==◌, not, ◌++◌, ◌∷◌, All, IfSome, IfNone, length, slice_index, take, drop};
 ghost use Rattle.std.specs.{List.prefix_len, Simd.Lanes.chunk};
 
@@ -13,7 +11,7 @@ use std::simd::prelude::*;
 // The number of bytes that are compared at once.
 const LANES: usize = 16;
 
-// Counts the bytes before the first `byte` among the `LANES` bytes from position `at` on, or all `LANES` if none is `byte`.
+// Counts the bytes before the first `byte` in the `LANES` bytes from position `at` on. Returns `LANES` if none is `byte`.
 #[inline(always)]
 fn run_before(bytes: &[u8], at: usize, byte: u8) -> usize
     requires { at + LANES ≤ length bytes.now }
@@ -31,7 +29,7 @@ fn run_before(bytes: &[u8], at: usize, byte: u8) -> usize
 
 // Returns the position of the first `byte` in `bytes`, or the number of bytes if `byte` doesn't occur.
 #[inline(always)]
-fn first_of(bytes: &[u8], byte: u8) -> usize
+fn position_of(bytes: &[u8], byte: u8) -> usize
     ensures within { result ≤ length bytes.now }
     ensures before { (k : ℕ) → k < result → slice_index bytes.now k ≢ byte }
     ensures found { result < length bytes.now → slice_index bytes.now result ≡ byte }
@@ -53,7 +51,7 @@ fn first_of(bytes: &[u8], byte: u8) -> usize
 }
 
 /// Splits `bytes` at the first `byte` into the bytes before it and the bytes after it. Returns `None` exactly if `byte`
-/// doesn't occur. Takes no memory, and time for the bytes up to the cut.
+/// doesn't occur. Takes no memory, and time proportional to the bytes up to the cut.
 #[inline]
 pub fn cut(bytes: &[u8], byte: u8) -> Option<(&[u8], &[u8])>
     ensures parts { IfSome result (λ parts. bytes.now ≡ parts.0.now ++ byte ∷ parts.1.now) }
@@ -61,15 +59,15 @@ pub fn cut(bytes: &[u8], byte: u8) -> Option<(&[u8], &[u8])>
     ensures less { IfSome result (λ parts. length parts.1.now < length bytes.now) }
     ensures none { IfNone result (All (λ b. b ≢ byte) bytes.now) }
 {
-    let at = first_of(bytes, byte);
+    let at = position_of(bytes, byte);
     if at == bytes.len() {
         return None;
     }
     Some((&bytes[..at], &bytes[at + 1..]))
 }
 
-/// Splits `part`, which begins at position `from` of `whole`, at its first `byte`, or returns `None` exactly if it has no
-/// such byte. A part of at most sixteen bytes is searched at once if `whole` has sixteen bytes or more from there.
+/// Splits `part` at the first `byte`, as `cut` does. Requires that `whole` has the bytes of `part` from position `from` on. A
+/// single comparison suffices if `part` has at most sixteen bytes, and `whole` has sixteen or more from `from` on.
 #[inline]
 pub fn cut_within<'a>(
     whole: &[u8],

@@ -1,7 +1,7 @@
 //! How a call of a source or a sink, or a whole transfer, may end.
 //!
-//! A source or a sink has one fault, `Failed`. The collector's program acts the same for every cause, so no kind of error is
-//! passed up. Lack of memory is no fault, and the two are never merged.
+//! A source or a sink has one fault, `Failed`. The collector's program does the same for every cause of it, so the cause
+//! isn't passed up. Lack of memory isn't a fault of the source: `read_all` reports it as another end.
 use thiserror::Error;
 
 /// The one fault of a source or a sink.

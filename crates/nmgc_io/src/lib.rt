@@ -1,19 +1,20 @@
 //! Bytes in and out: sources, sinks, numbers as text, and texts cut into parts.
 //!
-//! The program reads a script from a `Source` and writes a report to a `Sink`, and has no other contact with the outside.
-//! Both are traits whose contracts name the bytes that are left and taken. So the crates above prove 'the bytes read spell
-//! this script' and 'the bytes written are this report'. Both count their faults, and a fault is reported upwards only if the
-//! count rose. So no layer can give up and call it a fault.
+//! The program reads a script or an image from a `Source` and writes its output to a `Sink`. Besides these, only its
+//! arguments come from outside. The contracts of these two traits name the bytes that a source has left and that a sink has
+//! taken. So the crates above prove 'the bytes read spell this script' and 'the bytes written are this report'. Sources and
+//! sinks count their faults, and a fault is reported to a caller only if the count rose. So no layer can report a fault that
+//! didn't happen.
 //!
 //! - `source`, `sink`: the two traits; `ends`: how a call may end.
-//! - `memory_source`, `memory_sink`: both over memory, with faults at the caller's choice.
-//! - `standard`: both over any stream of the standard library, and so over the standard streams.
+//! - `memory_source`, `memory_sink`: a source and a sink in memory, which fail at calls of the caller's choice.
+//! - `standard`: a source and a sink over any stream of the standard library, such as standard input and output.
 //! - `transfer`: `read_all` and `write_all`.
 //! - `numbers`: decimal text of numbers, written and read. `cutting`: bytes cut at a separator.
 //! - `tokens`: a text cut into lines, and a line into tokens.
 //!
-//! It depends on `nmgc_lists` only for `NoMemory`. Every crate that reads or writes a text depends on it: scripts, journals,
-//! images, reports, and the programs.
+//! Every crate that reads or writes scripts, journals or images depends on this crate. This crate needs `nmgc_lists` only for
+//! `NoMemory`.
 #![tactic(auto)]
 
 mod cutting;

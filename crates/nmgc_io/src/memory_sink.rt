@@ -1,8 +1,8 @@
 //! A sink in memory, for tests and for callers that want the bytes.
 //!
-//! It takes bytes in chunks while there is room, and fails at listed calls. All its room is reserved when it is made. So a
-//! write takes no memory and can fail only for these two reasons. Contracts see the bytes taken and the room left. Easy to
-//! get wrong: a call without room left fails, and a call with less room than the piece doesn't.
+//! It takes bytes in chunks while there is room. All its room is reserved when it is made. So a write takes no memory, and
+//! fails only at a listed call or without room. Contracts see the bytes taken and the room left. Easy to get wrong: a call
+//! fails if no room is left, but not if the room is only less than the piece.
 ghost use Rattle.std.specs.Prelude.{◌≡◌, ◌⊎◌, ◌↔◌, ◌+◌, ◌<◌, ◌≤◌, ◌++◌, [], min, length, vec_len, vec_capacity, IfOk, IsErr, Contains, Some};
 ghost use Rattle.std.specs.Io.KnownBytes.{WriteAppends};
 ghost use Rattle.nmgc_io.specs.Counts.{HasCause, next};
@@ -42,9 +42,9 @@ impl Model for MemorySink {
 }
 
 impl MemorySink {
-    /// Makes a sink that takes at most `chunk` bytes a call and `room` bytes in all. It fails at exactly the calls whose
-    /// numbers, from 1, are in `failing`, and at calls after all room is used. The call number stops at 2^64 - 1, and so does
-    /// the number of failed calls, which is the count of faults. `NoMemory` means that there was no memory for `room` bytes.
+    /// Makes a sink that takes at most `chunk` bytes a call and `room` bytes in all. Requires a `chunk` of at least 1. A call
+    /// fails exactly if its number, from 1, is in `failing` or no room is left. The call number stops at 2^64 - 1, and so
+    /// does the number of failed calls, which is the count of faults. `NoMemory` means no memory for `room` bytes.
     pub fn new(
         alloc: Global,
         chunk: usize,
@@ -80,6 +80,7 @@ impl Sink for MemorySink {
 
     ghost faults = { λ s. s.faults };
 
+    // Does as the trait says. A call takes the least of `chunk`, the room and the length of `piece`. It fails as `new` says.
     fn write(&mut self, piece: &[u8]) -> Result<usize, Failed>
         requires { 0 < length piece.now }
         ensures some { IfOk result (λ n. 0 < n) }
@@ -105,7 +106,7 @@ impl Sink for MemorySink {
     }
 }
 
-// Appends `piece` to `bytes`, which already has room for it.
+// Appends `piece` to `bytes`. Requires that the capacity of `bytes` already suffices. The capacity doesn't fall.
 fn append_reserved(bytes: &mut Vec<u8>, piece: &[u8])
     requires { vec_len bytes.old + length piece.now ≤ vec_capacity bytes.old }
     ensures items { bytes.new.items ≡ bytes.old.items ++ piece.now }

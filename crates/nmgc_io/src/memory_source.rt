@@ -1,8 +1,8 @@
 //! A source in memory, for tests and for callers that have the bytes.
 //!
-//! It gives its bytes in chunks, and fails at listed calls. So every way in which a reader can be cut short is tried without
-//! a real device. Contracts see the bytes left, and never the reading position. Easy to get wrong: a failing call counts as a
-//! call too, and takes no byte.
+//! It gives its bytes in chunks, and fails at listed calls. So tests can cut a reader short in every way without a real
+//! device. Contracts see the bytes left, and never the reading position. Easy to get wrong: a failing call counts as a call
+//! too, and takes no byte.
 ghost use Rattle.std.specs.Prelude.{◌≡◌, ◌↔◌, ◌<◌, ◌≤◌, ◌+◌, ◌++◌, min, length, take, drop, IfOk, IsErr, Contains, Some};
 ghost use Rattle.std.specs.{Io.ReadsAtMost, Io.KnownBytes.ReadConsumes};
 ghost use Rattle.nmgc_io.specs.Counts.{HasCause, next};
@@ -39,9 +39,9 @@ impl Model for MemorySource {
 }
 
 impl MemorySource {
-    /// Makes a source that gives `bytes` in order, at most `chunk` a call. It fails at exactly the calls whose numbers, from
-    /// 1, are in `failing`. The call number stops at 2^64 - 1, and so does the number of failed calls, which is the count of
-    /// faults. Takes no memory.
+    /// Makes a source that gives `bytes` in order, at most `chunk` a call. Requires a `chunk` of at least 1. A call fails
+    /// exactly if its number, from 1, is in `failing`. The call number stops at 2^64 - 1, and so does the number of failed
+    /// calls, which is the count of faults. Takes no memory.
     pub fn new(bytes: Vec<u8>, chunk: usize, failing: Vec<u64>) -> Self
         requires { 1 ≤ chunk }
         ensures { result ≡ record { bytes = bytes.items; chunk = chunk; failing = failing.items; calls = 0; faults = 0 } }
@@ -64,6 +64,7 @@ impl Source for MemorySource {
 
     ghost faults = { λ s. s.faults };
 
+    // Does as the trait says. A call gives the least of `chunk`, the bytes left and the length of `buf`. Fails as `new` says.
     fn read(&mut self, buf: &mut [u8]) -> Result<usize, Failed>
         requires { 0 < length buf.old }
         ensures bound { ReadsAtMost result buf.new }
@@ -85,8 +86,8 @@ impl Source for MemorySource {
     }
 }
 
-// Copies the bytes from position `at` on to the front of `buf`, and returns how many were copied. This is the least of the
-// number of these bytes, `chunk` and the length of `buf`.
+// Copies the bytes from position `at` on, in order, to the front of `buf`. Returns the number of bytes copied: the least of
+// `chunk`, the length of `buf`, and the number of bytes from `at` on. Requires an `at` within `bytes` or at its end.
 fn copy_front(bytes: &[u8], at: usize, chunk: usize, buf: &mut [u8]) -> usize
     requires { at ≤ length bytes.now }
     ensures count { result ≡ min (min (length (drop at bytes.now)) chunk) (length buf.old) }

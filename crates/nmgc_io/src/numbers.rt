@@ -1,10 +1,10 @@
 //! Numbers as decimal text, as scripts and reports spell them.
 //!
-//! A number is its decimal digits, without sign or leading zeros, so a number has one text and a text has one number. Both
-//! calls run once for each number of a script or a report of many megabytes. `itoa` writes two digits at a time, and reading
-//! is one pass over the digits with the value so far. Most numbers there, such as registers, mutators and fields, have one
-//! digit and need neither a buffer nor a loop. Easy to get wrong: the value is compared with the limit at each digit. The
-//! text of a number past 64 bits must not wrap round to a small number.
+//! A number's text is its decimal digits, without sign or leading zeros. So each number has one text, and no two numbers have
+//! the same. Both calls run once for each number of a script or a report of many megabytes. `itoa` writes two digits at a
+//! time, and reading is one pass over the digits with the value so far. Most of these numbers, such as registers, mutators
+//! and fields, have one digit and need neither a buffer nor a loop. Easy to get wrong: the value is compared with the limit
+//! at each digit. The text of a number past 64 bits must not wrap round to a small number.
 ghost use Rattle.std.specs.Prelude.{◌≡◌, ◌≢◌, ℕ, ◌+◌, ◌-◌, ◌*◌, ◌<◌, ◌≤◌, ◌++◌, decimal, IfSome, IfNone, IsTrue, ◌↔◌, OnOk, OnErr, length, slice_index};
 ghost use Rattle.std.specs.Int.{IsInRange};
 
@@ -24,8 +24,8 @@ pub fn push_number(out: &mut Vec<u8>, number: u64) -> Result<(), NoMemory>
     Ok(())
 }
 
-/// Returns the number of at most `limit` whose decimal text, without leading zeros, is the token `word`. Returns `None`
-/// exactly if there is no such number. Takes no memory.
+/// Reads a token as a decimal number without leading zeros. Returns the number, or `None` exactly if `word` isn't the decimal
+/// text of a number of at most `limit`. Takes no memory.
 pub fn read_number(word: &[u8], limit: u64) -> Option<u64>
     ensures found { IfSome result (λ n. (word.now ≡ decimal n) × (n ≤ limit)) }
     ensures none { IfNone result ((n : ℕ) → n ≤ limit → word.now ≢ decimal n) }
@@ -43,8 +43,7 @@ pub fn read_number(word: &[u8], limit: u64) -> Option<u64>
     Some(number)
 }
 
-// Whether a token isn't empty and has no leading zero: only `0` may begin with a zero. Doesn't check that the bytes are
-// digits.
+// Whether a token isn't empty and has no leading zero. The token `0` has none. No byte has to be a digit.
 #[inline]
 fn has_no_leading_zero(word: &[u8]) -> bool
     ensures { IsTrue result ↔ ((0 < length word.now) × (slice_index word.now 0 ≡ 48 → length word.now ≡ 1)) }

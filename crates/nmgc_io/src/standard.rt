@@ -1,11 +1,11 @@
 //! Streams of the standard library as a source and a sink, standard input and output among them.
 //!
-//! A stream gives contracts the bytes that it has left or holds, if it can: a stream in memory can, a pipe or a terminal
-//! can't. So both are generic over std's `Read` and `Write` and give exactly the bytes that the stream gives. Their
-//! properties are proved for streams that give their bytes, and the same code runs over standard input and output. While
+//! `ReadSource` and `WriteSink` are generic over std's `Read` and `Write`, and pass on exactly the stream's bytes. Contracts
+//! see the bytes that a stream has left or holds, if it knows them: a stream in memory does, a pipe or a terminal doesn't. So
+//! properties of bytes are proved for streams that know them, and the same code runs over standard input and output. While
 //! bytes are left, a fault is never reported as the end, and a short write is never reported as a whole one. It is trusted
 //! that the real streams keep the contracts of `Read` and `Write`. Easy to get wrong: a write that takes nothing is no error
-//! to the system, but a loop over it would never end. It counts as a fault here.
+//! to the system, but a loop over it would never end. Here it counts as a fault.
 ghost use Rattle.std.specs.{Prelude.◌≡◌, Prelude.◌<◌, Prelude.◌≤◌, Prelude.length, Prelude.IfOk, Io.ReadsAtMost, Io.KnownBytes.ReadConsumes, Io.KnownBytes.WriteAppends};
 ghost use Rattle.nmgc_io.specs.Counts.{HasCause, CountsErr};
 
@@ -32,9 +32,8 @@ impl<R> Model for ReadSource<R> {
 }
 
 impl<R> ReadSource<R> {
-    /// Makes a source that reads from `stream`, with no failure counted. It gives the bytes that the stream gives. While
-    /// bytes are left no read reports the end, so a fault is never taken for it. Each reported failure counts. Takes no
-    /// memory.
+    /// Makes a source that reads from `stream`, with no failure counted. The source gives the stream's bytes, and reports the
+    /// end only if none are left. So a fault never looks like the end. Failed reads are counted. Takes no memory.
     pub fn new(stream: R) -> Self
         ensures { result ≡ record { stream = stream; faults = 0 } }
     {
@@ -81,7 +80,7 @@ impl<W> Model for WriteSink<W> {
 }
 
 impl<W> WriteSink<W> {
-    /// Makes a sink that writes to `stream`, with no failure counted yet. It hands on bytes to the stream, and reports a
+    /// Makes a sink that writes to `stream`, with no failure counted. The sink passes bytes on to the stream, and reports a
     /// short write as short. A write that takes nothing is a failure. Each failure is counted. Takes no memory.
     pub fn new(stream: W) -> Self
         ensures { result ≡ record { stream = stream; faults = 0 } }

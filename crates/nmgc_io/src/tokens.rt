@@ -1,18 +1,16 @@
 //! Lines and tokens of a text.
 //!
 //! A text is cut at line feeds, and the last line feed may be missing. A line is cut at single spaces, so two spaces in a row
-//! make an empty token.
-//!
-//! Most lines are shorter than the group of bytes that is searched at once. So a line is cut together with the text after it,
-//! if there is any, which fills the group.
+//! make an empty token. Sixteen bytes are searched at once, and most lines are shorter. So a line is cut together with the
+//! text after it, if there is any, which fills up the sixteen.
 ghost use Rattle.std.specs.Prelude.{◌≡◌, ◌<◌, ◌∷◌, [], map, length, take, OnOk, IfSome, IfNone};
 ghost use Rattle.nmgc_io.specs.Text.{lines_of, tokens_of, is_blank_or_comment};
 
 use crate::cutting::{cut, cut_within};
 use nmgc_lists::NoMemory;
 
-/// Splits a text into its first line, without its line feed, and the rest after it. Returns `None` exactly if the text is
-/// empty. Takes no memory.
+/// Splits a text into its first line, without the line feed, and the text after this line. The last line may lack a line
+/// feed. Returns `None` exactly if the text is empty. Takes no memory.
 #[inline]
 pub fn split_line(bytes: &[u8]) -> Option<(&[u8], &[u8])>
     ensures line { IfSome result (λ parts. lines_of bytes.now ≡ parts.0.now ∷ lines_of parts.1.now) }
@@ -29,7 +27,7 @@ pub fn split_line(bytes: &[u8]) -> Option<(&[u8], &[u8])>
     }
 }
 
-/// Whether a line is empty or a comment, which begins with `#`. Takes no memory.
+/// Whether a line is empty, or is a comment, which begins with `#`. A line of spaces is neither. Takes no memory.
 #[inline]
 pub fn is_blank_or_comment(line: &[u8]) -> bool
     ensures { result ≡ is_blank_or_comment line.now }
@@ -40,14 +38,14 @@ pub fn is_blank_or_comment(line: &[u8]) -> bool
     }
 }
 
-/// Replaces the content of `tokens` by the tokens of `line`.
+/// Replaces the content of `tokens` by the tokens of `line`. After `NoMemory` the content of `tokens` isn't specified.
 pub fn cut_tokens<'a>(tokens: &mut Vec<&'a [u8]>, line: &'a [u8]) -> Result<(), NoMemory>
     ensures { OnOk result (map (λ t. t.now) tokens.new.items ≡ tokens_of line.now) }
 {
     cut_tokens_within(tokens, line, line)
 }
 
-/// Replaces the content of `tokens` by the tokens of `line`, which is the beginning of `text`. A long `text` makes it faster.
+/// Does the same as `cut_tokens`. Requires that `text` begins with `line`. Text after a short line saves time (`cut_within`).
 pub fn cut_tokens_within<'a>(
     tokens: &mut Vec<&'a [u8]>,
     line: &'a [u8],

@@ -2,9 +2,7 @@
 //!
 //! The words of a run are in one table. As the run ends the table is closed, and the report keeps the table: it copies no
 //! word. Words in a vector are final words too, for callers that make a report by hand. The storage is no part of their
-//! value: contracts see a list.
-//!
-//! Easy to get wrong: a closed table doesn't give its memory back by itself, so a type of its own does.
+//! value: contracts see a list. Easy to get wrong: a closed table doesn't free its memory by itself, but a `FullTable` does.
 ghost use Rattle.std.specs.{Prelude.◌≡◌, Prelude.◌<◌, Prelude.length, Prelude.slice_index, Slots.slots_items, Slots.slots_len, Slots.IsFull};
 
 use atomic_table::Closed;
@@ -40,6 +38,7 @@ struct FullTable {
     ghost bare: { slots_len closed.slots ≡ 0 },
 }
 
+// Frees the memory of the closed table.
 impl Drop for FullTable {
     fn drop(self) {
         let FullTable { closed } = self;

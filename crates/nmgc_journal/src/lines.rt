@@ -1,10 +1,9 @@
 //! The line of a reply: the mutator, a space and the reply.
 //!
-//! A report may have millions of them, and nearly all give a name or a number. Such a line is written into a buffer from its
-//! end backwards, since the digits of a number are computed from the last one. It is appended to the text as a whole.
-//!
-//! Easy to get wrong: the line of a name has one number more than the line of a number. But its numbers have 8 and 32 bits,
-//! so the longest line has a mutator and a number of 20 digits each.
+//! A report may have millions of such lines, and nearly all give a name or a number. The line of a number, or of a name other
+//! than g, is written into a buffer from its end backwards. The digits of a number are computed from the last one. It is
+//! appended to the text as a whole. Easy to get wrong: the line of a name has one number more than the line of a number. But
+//! its numbers have 8 and 32 bits, so the longest line has a mutator and a number of 20 digits each.
 ghost use Rattle.std.specs.Prelude.{◌≡◌, ◌+◌, ◌<◌, ◌≤◌, [], ◌∷◌, ◌++◌, decimal, drop, length, OnOk};
 ghost use Rattle.nmgc_world_spec.specs.{declared.command.Reply.TheVariants.Given, declared.value.Value.TheVariants.Number, declared.value.Value.TheVariants.Ref};
 ghost use Rattle.nmgc_journal.specs.Text.{reply_line, reply_text, HasWord};
@@ -18,8 +17,8 @@ use nmgc_world_spec::{Name, Reply, Value};
 // The size of the buffer: more bytes than any line has.
 const LINE: usize = 64;
 
-// Writes `number` and then `byte` into the buffer, so that `byte` is just before position `end`. Returns the position of the
-// first digit. The bytes from `end` on stay.
+// Writes `number` and then `byte` into the buffer, so that `byte` is just before position `end`. Requires that both fit
+// there. Returns the position of the first digit. The bytes from `end` on stay.
 #[inline(always)]
 fn write_before(line: &mut [u8; LINE], end: usize, number: u64, byte: u8) -> usize
     requires room { length (decimal number) < end }
@@ -37,7 +36,7 @@ pub fn push_reply_line(out: &mut Vec<u8>, mutator: u64, reply: Reply) -> Result<
 {
     match reply {
         Reply::Given(value) => push_value_line(out, mutator, value),
-        other => push_word_line(out, mutator, word_of(other)),
+        other => push_word_line(out, mutator, reply_token(other)),
     }
 }
 
@@ -96,8 +95,8 @@ fn push_word_line(out: &mut Vec<u8>, mutator: u64, word: &[u8]) -> Result<(), No
     Ok(())
 }
 
-// Returns the token of a reply that gives no value.
-fn word_of(reply: Reply) -> &'static [u8]
+// Returns the token of a reply. Requires a reply that gives no value.
+fn reply_token(reply: Reply) -> &'static [u8]
     requires { HasWord reply }
     ensures { result.now ≡ reply_text reply }
 {

@@ -3,11 +3,10 @@
 //! A report keeps every reply of a run. As values of 24 bytes they would be the largest part of a long run's report. A reply
 //! is a number, an object's name or one of fifteen others, so it can be packed into a word (`specs/Replies.antt`). The upper
 //! half of the word is 0, except for numbers of 2^31 or more and names with a serial of 2^22 or more. If a list has neither,
-//! only the lower halves are kept. A reader of a report unpacks one reply at a time. The packing is no part of the value:
-//! contracts see the replies. The packing is no format. It pays, since new memory takes a large part of a long run's time.
-//!
+//! only the lower halves are kept. A reader of a report unpacks one reply at a time. The packing is no part of the value,
+//! since contracts see the replies, and no format has it. It pays, since new memory takes a large part of a long run's time.
 //! Easy to get wrong: a number of 2^63 or more doesn't fit beside the bit that marks a number. No heap has such a number, but
-//! a list of replies may; then the whole list is kept as it is.
+//! a list of replies may have one, and is then kept unpacked as a whole.
 ghost use Rattle.std.specs.Prelude.{◌≡◌, ◌<◌, IfOk, IfSome, length, slice_get, slice_index_or, Some};
 ghost use Rattle.nmgc_world_spec.specs.{declared.command.Reply.TheVariants.Fine, declared.command.Reply.TheVariants.Given, declared.value.Value.TheVariants.Number, declared.value.Value.TheVariants.Ref};
 ghost use Rattle.nmgc_journal.specs.{Text.HasWord, Replies.name_in, Replies.plain_replies, Replies.reply_in};
@@ -42,15 +41,15 @@ enum Form {
 }
 
 impl Replies {
-    /// Makes a list of `replies`. Takes memory for half a word each. If one doesn't fit, takes a word each besides, and for a
-    /// number of 2^63 or more the unpacked replies too. Memory that wasn't large enough is given back.
+    /// Makes a list of `replies`. Takes memory for half a word for each reply. If a reply doesn't fit, takes memory for a
+    /// word each too, and if a number is 2^63 or more, also for the unpacked replies. Unused memory is given back.
     pub fn from_slice(alloc: Global, replies: &[Reply]) -> Result<Replies, NoMemory>
         ensures { IfOk result (λ own. own ≡ replies.now) }
     {
         let mut words = Vec::with_capacity(alloc, replies.len())?;
         for reply in replies {
-            let Some(word) = half(*reply) else {
-                return Replies::in_words(alloc, replies);
+            let Some(word) = pack_into_half(*reply) else {
+                return Replies::pack_into_words(alloc, replies);
             };
             words.push_reserved(word);
         }
@@ -60,13 +59,13 @@ impl Replies {
     }
 
     // Makes a list of `replies`: packed into a word each if all fit, and otherwise unpacked.
-    fn in_words(alloc: Global, replies: &[Reply]) -> Result<Replies, NoMemory>
+    fn pack_into_words(alloc: Global, replies: &[Reply]) -> Result<Replies, NoMemory>
         ensures { IfOk result (λ own. own ≡ replies.now) }
     {
         let mut words = Vec::with_capacity(alloc, replies.len())?;
         for reply in replies {
-            let Some(word) = packed(*reply) else {
-                return Replies::whole(alloc, replies);
+            let Some(word) = pack_into_word(*reply) else {
+                return Replies::keep_unpacked(alloc, replies);
             };
             words.push_reserved(word);
         }
@@ -76,7 +75,7 @@ impl Replies {
     }
 
     // Makes a list of `replies`, unpacked.
-    fn whole(alloc: Global, replies: &[Reply]) -> Result<Replies, NoMemory>
+    fn keep_unpacked(alloc: Global, replies: &[Reply]) -> Result<Replies, NoMemory>
         ensures { IfOk result (λ own. own ≡ replies.now) }
     {
         Ok(Replies {
@@ -109,10 +108,10 @@ impl Replies {
 }
 
 // Packs a reply into half a word, or returns `None` if it doesn't fit.
-fn half(reply: Reply) -> Option<u32>
+fn pack_into_half(reply: Reply) -> Option<u32>
     ensures { IfSome result (λ word. reply_in word ≡ reply) }
 {
-    let word = packed(reply)?;
+    let word = pack_into_word(reply)?;
     if word > u64::from(u32::MAX) {
         return None;
     }
@@ -120,7 +119,7 @@ fn half(reply: Reply) -> Option<u32>
 }
 
 // Packs a reply into a word, or returns `None` if it doesn't fit.
-fn packed(reply: Reply) -> Option<u64>
+fn pack_into_word(reply: Reply) -> Option<u64>
     ensures { IfSome result (λ word. reply_in word ≡ reply) }
 {
     match reply {
@@ -158,7 +157,7 @@ fn packed_name(name: Name) -> u64
     4 * (u64::from(name.maker) + 256 * u64::from(name.serial)) + 2
 }
 
-// Packs a reply that gives no value into a word: four times the reply's position among the plain replies.
+// Packs a reply into a word: four times the reply's position among the plain replies. Requires a reply that gives no value.
 fn packed_plain(reply: Reply) -> u64
     requires { HasWord reply }
     ensures { reply_in result ≡ reply }
@@ -199,7 +198,7 @@ fn reply_in(word: u64) -> Reply
     plain_at(code)
 }
 
-// Returns the name that a code represents.
+// Returns the name that a code represents: the code, modulo 2^40, is 256 times the serial, plus the maker.
 fn name_in(code: u64) -> Name
     ensures { result ≡ name_in code }
 {

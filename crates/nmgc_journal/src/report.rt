@@ -2,13 +2,12 @@
 //!
 //! A run goes from stop to stop: stop 0 is the opening one, and stop n follows round n. So there is one more row of stops
 //! than of rounds, and a row's position is its number. A cycle's row is written at the stop at which the cycle ends, so the
-//! rows of the cycles are in the order of the stops at which they ended.
+//! rows of the cycles are in the order of the stops at which they ended. Easy to get wrong: one stop may end two cycles, the
+//! one in progress and a full one.
 //!
 //! Beside the rows a report has the heap as the last stop left it: its words, its segments, the mutators' registers and
 //! queues, and the weak pointers. The text has nothing of the heap. The heap is in the report so that a contract can say of a
 //! whole run: at its end, the words still represent the world that the replies made.
-//!
-//! Easy to get wrong: one stop may end two cycles, the one in progress and a full one.
 use crate::final_words::FinalWords;
 use crate::replies::Replies;
 use nmgc_alloc::Segments;

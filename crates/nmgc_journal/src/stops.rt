@@ -2,8 +2,8 @@
 //!
 //! The format says "the cycles that ended at this stop", whatever their order (`specs/Text.antt`, `ended_at`), and
 //! `push_stop_at` looks through all of them. If the cycles are in the order of the stops at which they ended, the cycles of a
-//! stop are at the front of those that no earlier stop has taken. So `push_next_stop` looks at these alone. Easy to get
-//! wrong: a stop without a row has to take its cycles too. Otherwise the next stop begins at cycles that ended before.
+//! stop are the first that no earlier stop has taken. So `push_next_stop` looks only at the first of the cycles left. Easy to
+//! get wrong: a stop without a row has to take its cycles too. Otherwise the next stop begins at cycles that ended before.
 ghost use Rattle.std.specs.Prelude.{◌≡◌, ◌≢◌, ◌↔◌, ℕ, ◌+◌, ◌<◌, ◌≤◌, ◌++◌, ◌==◌, length, take, drop, IsTrue, OnOk, IfOk};
 ghost use Rattle.std.specs.List.{flat_map, take_while};
 ghost use Rattle.nmgc_journal.specs.Text.{phase_text, stop_line, stop_counts, cycle_line, cycle_stops, cycle_swept, cycle_kept, cycle_text, name_line, stop_at, ended_at};
@@ -45,8 +45,8 @@ pub fn push_stop_at(
     Ok(())
 }
 
-/// Appends the lines of stop `number` and of the cycles that ended at it, and returns the number of these cycles, which come
-/// first. All `cycles` ended at this stop or later, in order. If the stop has no row, nothing is appended.
+/// Appends the lines of stop `number` and of the cycles that ended at it, or nothing if the stop has no row. In both cases
+/// returns the number of these cycles, which come first. Requires `cycles` in order, and that none ended before this stop.
 pub fn push_next_stop(
     out: &mut Vec<u8>,
     stops: &[StopRow],
@@ -65,7 +65,7 @@ pub fn push_next_stop(
     Ok(count)
 }
 
-// Counts the cycles that ended at stop `number`. Requires cycles that ended at this stop or later, in order.
+// Counts the cycles that ended at stop `number`. Requires `cycles` in order, and that none ended before this stop.
 fn ended_count(cycles: &[CycleRow], number: u64) -> usize
     requires { AreEndedFrom number cycles.now }
     ensures ended { take result cycles.now ≡ ended_at number cycles.now }
@@ -84,6 +84,7 @@ fn front_count(cycles: &[CycleRow], number: u64) -> usize
         .count()
 }
 
+// Appends the line of a stop.
 fn push_stop_line(out: &mut Vec<u8>, row: &StopRow) -> Result<(), NoMemory>
     ensures { OnOk result (out.new.items ≡ out.old.items ++ stop_line row.now) }
 {
@@ -103,6 +104,7 @@ fn phase_word(phase: Phase) -> &'static [u8]
     }
 }
 
+// Appends the four counts that end the line of a stop, and its line feed.
 fn push_stop_counts(out: &mut Vec<u8>, row: &StopRow) -> Result<(), NoMemory>
     ensures { OnOk result (out.new.items ≡ out.old.items ++ stop_counts row.now) }
 {
@@ -125,6 +127,7 @@ fn push_ended_at(out: &mut Vec<u8>, number: u64, cycles: &[CycleRow]) -> Result<
     Ok(())
 }
 
+// Appends the lines of each of `cycles`, in order.
 fn push_cycles(out: &mut Vec<u8>, cycles: &[CycleRow]) -> Result<(), NoMemory>
     ensures { OnOk result (out.new.items ≡ out.old.items ++ flat_map cycle_text cycles.now) }
 {
@@ -134,6 +137,7 @@ fn push_cycles(out: &mut Vec<u8>, cycles: &[CycleRow]) -> Result<(), NoMemory>
     Ok(())
 }
 
+// Appends the lines of a cycle: its own line, the weak pointers that died, and the names that were freed.
 fn push_cycle(out: &mut Vec<u8>, row: &CycleRow) -> Result<(), NoMemory>
     ensures { OnOk result (out.new.items ≡ out.old.items ++ cycle_text row.now) }
 {
@@ -142,6 +146,7 @@ fn push_cycle(out: &mut Vec<u8>, row: &CycleRow) -> Result<(), NoMemory>
     push_name_list(out, b"freed ", &row.freed)
 }
 
+// Appends a cycle's own line.
 fn push_cycle_line(out: &mut Vec<u8>, row: &CycleRow) -> Result<(), NoMemory>
     ensures { OnOk result (out.new.items ≡ out.old.items ++ cycle_line row.now) }
 {
@@ -150,6 +155,7 @@ fn push_cycle_line(out: &mut Vec<u8>, row: &CycleRow) -> Result<(), NoMemory>
     push_cycle_kept(out, row)
 }
 
+// Appends the first part of a cycle's line: its number, and the stops of its snapshot and its closing.
 fn push_cycle_stops(out: &mut Vec<u8>, row: &CycleRow) -> Result<(), NoMemory>
     ensures { OnOk result (out.new.items ≡ out.old.items ++ cycle_stops row.now) }
 {
@@ -158,6 +164,7 @@ fn push_cycle_stops(out: &mut Vec<u8>, row: &CycleRow) -> Result<(), NoMemory>
     push_count(out, b" closed ", u64::from(row.closed))
 }
 
+// Appends the counts of the segments that a cycle swept, of the blocks in use there, and of the blocks that it freed.
 fn push_cycle_swept(out: &mut Vec<u8>, row: &CycleRow) -> Result<(), NoMemory>
     ensures { OnOk result (out.new.items ≡ out.old.items ++ cycle_swept row.now) }
 {
@@ -166,6 +173,7 @@ fn push_cycle_swept(out: &mut Vec<u8>, row: &CycleRow) -> Result<(), NoMemory>
     push_count(out, b" freed ", row.freed.len() as u64)
 }
 
+// Appends the counts of the blocks that a cycle kept and of the weak pointers that died, and the line feed.
 fn push_cycle_kept(out: &mut Vec<u8>, row: &CycleRow) -> Result<(), NoMemory>
     ensures { OnOk result (out.new.items ≡ out.old.items ++ cycle_kept row.now) }
 {

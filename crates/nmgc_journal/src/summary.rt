@@ -1,9 +1,10 @@
 //! The summary of a bench.
 //!
 //! It has the totals of the rows of a report: the work done, and the objects made, promoted, freed and kept. Each number is a
-//! sum over the rows, which are read once and not copied (`specs/Summary.antt`). The sums have 128 bits. No list of rows is
-//! long enough for a larger sum, so the report needn't come from a run. Easy to get wrong: the number of kept objects is the
-//! last cycle's alone, since each cycle keeps a surviving object again.
+//! sum over the rows, which are read once and not copied (`specs/Summary.antt`). The sums have 128 bits, except the number of
+//! commands, which has 64 and has to be below 2^64. No list of rows is long enough for another sum to be too large, so the
+//! report needn't come from a run. Easy to get wrong: the number of kept objects is the last cycle's alone, since each cycle
+//! keeps a surviving object again.
 ghost use Rattle.std.specs.Prelude.{◌≡◌, ◌<◌, ◌^◌, ◌++◌, codes, OnOk, IfOk};
 ghost use Rattle.nmgc_journal.specs.Summary.{reply_count, command_count, made_count, promoted_count, freed_count, kept_count, count_line, run_lines, object_lines, summary_text};
 
@@ -15,8 +16,8 @@ use nmgc_lists::NoMemory;
 use std::alloc::Global;
 
 /// Returns the summary of a bench of `batches` batches, computed from the rows of its report, in the form of
-/// `docs/FORMATS.md`. Requires that fewer than 2^64 commands were answered, which is so for every lawful report of a bench.
-/// No other sum can be too large. Takes time proportional to the rounds and their mutators, the stops and the cycles.
+/// `docs/FORMATS.md`. Requires that fewer than 2^64 commands were answered, as `nmgc_cli` proves for lawful reports of a
+/// bench. No other sum can be too large. Takes time proportional to the rounds and their mutators, the stops and the cycles.
 pub fn summary(alloc: Global, batches: u32, report: &Report) -> Result<Vec<u8>, NoMemory>
     requires { command_count report.now.rounds < 2 ^ 64 }
     ensures { IfOk result (λ text. text.items ≡ summary_text batches report.now) }
@@ -62,7 +63,7 @@ fn push_line(out: &mut Vec<u8>, word: &[u8], number: u128) -> Result<(), NoMemor
     push_word(out, b"\n")
 }
 
-// Counts the commands that were answered in all rounds.
+// Counts the commands that were answered, in all rounds together. Requires fewer than 2^64.
 fn command_count(rounds: &[RoundRows]) -> u64
     requires { command_count rounds.now < 2 ^ 64 }
     ensures { result ≡ command_count rounds.now }

@@ -1,14 +1,11 @@
 //! The text of a report.
 //!
-//! Each function here appends one piece of the text to the bytes so far, and its contract names that piece of the format.
-//!
-//! A run writes its cycles in the order of the stops at which they ended. One pass checks whether that is so. Then a cursor
-//! takes the cycles of each stop from the front of the cycles left. So a run of two million stops and a million cycles takes
-//! time proportional to the length of its text. If a report's cycles are in another order, each stop looks through all of
-//! them, which takes time proportional to stops times cycles.
-//!
-//! A text may be as long as the script, and a vector that grows moves each time that it has doubled. So the room for about
-//! the whole text is taken at first.
+//! Each function here appends one piece of the text to the bytes so far, and its contract names that piece of the format. A
+//! run writes its cycles in the order of the stops at which they ended. One pass checks whether that is so. Then each stop
+//! takes its cycles from the front of the cycles left. So a run of two million stops and a million cycles takes time
+//! proportional to the length of its text. If a report's cycles are in another order, each stop looks through all of them,
+//! which takes time proportional to stops times cycles. A vector that grows moves each time that it has doubled, and a text
+//! may be as long as the script. So the room for about the whole text is taken at first.
 ghost use Rattle.std.specs.Prelude.{◌≡◌, ◌+◌, ◌<◌, ◌≤◌, ◌^◌, ◌++◌, length, codes, OnOk, IfOk};
 ghost use Rattle.std.specs.List.{flat_map};
 ghost use Rattle.nmgc_journal.specs.Stops.{AreEndedFrom};
@@ -28,8 +25,8 @@ const NAME_BYTES: usize = 12;
 // The usual number of bytes in the line of a stop or of a cycle.
 const STOP_BYTES: usize = 64;
 
-/// Returns the text of a report, as `docs/FORMATS.md` gives it, for every report. The cycles of a stop are those that ended
-/// at it, in the order of their rows; a run writes the rows in the order of their numbers.
+/// Returns the text of any report, in the format of `docs/FORMATS.md`. After the line of a stop come the cycles that ended at
+/// it, in the order of their rows. A run writes these rows in the order of the cycles' numbers.
 pub fn text(alloc: Global, report: &Report) -> Result<Vec<u8>, NoMemory>
     ensures { IfOk result (λ text. text.items ≡ report_text report.now) }
 {
@@ -45,7 +42,7 @@ pub fn text(alloc: Global, report: &Report) -> Result<Vec<u8>, NoMemory>
 fn take_room(out: &mut Vec<u8>, report: &Report)
     ensures { out.new.items ≡ out.old.items }
 {
-    let names = NAME_BYTES.saturating_mul(names_count(report));
+    let names = NAME_BYTES.saturating_mul(reply_and_freed_count(report));
     let rows = report
         .stops
         .items()
@@ -54,8 +51,8 @@ fn take_room(out: &mut Vec<u8>, report: &Report)
     let _ = out.reserve(names.saturating_add(STOP_BYTES.saturating_mul(rows)));
 }
 
-// Counts the lines of a report that are replies or freed names.
-fn names_count(report: &Report) -> usize {
+// Counts the replies and the freed names of a report: each has one line in the report's text.
+fn reply_and_freed_count(report: &Report) -> usize {
     let mut count: usize = 0;
     for rows in report.rounds.items() {
         for replies in rows.replies.items() {
@@ -79,7 +76,7 @@ fn push_rounds(out: &mut Vec<u8>, report: &Report) -> Result<(), NoMemory>
     push_rounds_in_any_order(out, report)
 }
 
-// Appends the lines of stop 0, and of each round and the stop after it, for cycles in any order: each stop looks through all.
+// Appends the lines of stop 0, of each round and of the stop after it. Each stop looks at all cycles, in whatever order.
 fn push_rounds_in_any_order(out: &mut Vec<u8>, report: &Report) -> Result<(), NoMemory>
     ensures { OnOk result (out.new.items ≡ out.old.items ++ (stop_at report.now.stops report.now.cycles 0 ++
         rounds_text report.now.stops report.now.cycles 1 report.now.rounds)) }
@@ -93,7 +90,7 @@ fn push_rounds_in_any_order(out: &mut Vec<u8>, report: &Report) -> Result<(), No
     Ok(())
 }
 
-// Appends the lines of stop 0, and of each round and the stop after it, for cycles in the order of the stops that ended them.
+// Appends the lines of stop 0, of each round and of the stop after it. Requires cycles in the order in which they ended.
 fn push_rounds_in_order(out: &mut Vec<u8>, report: &Report) -> Result<(), NoMemory>
     requires { AreEndedFrom 0 report.now.cycles }
     ensures { OnOk result (out.new.items ≡ out.old.items ++ (stop_at report.now.stops report.now.cycles 0 ++
@@ -135,6 +132,7 @@ fn push_end_counts(out: &mut Vec<u8>, free: u32, reserve: u32) -> Result<(), NoM
     push_word(out, b"\n")
 }
 
+// Appends the lines of a round: its number, and the replies of each mutator in order.
 fn push_round(out: &mut Vec<u8>, number: u64, rows: &RoundRows) -> Result<(), NoMemory>
     ensures { OnOk result (out.new.items ≡ out.old.items ++ round_text number rows.now) }
 {
@@ -147,6 +145,7 @@ fn push_round(out: &mut Vec<u8>, number: u64, rows: &RoundRows) -> Result<(), No
     Ok(())
 }
 
+// Appends the lines of a mutator's replies in a round.
 fn push_replies(out: &mut Vec<u8>, mutator: u64, replies: &Replies) -> Result<(), NoMemory>
     ensures { OnOk result (out.new.items ≡ out.old.items ++ flat_map (reply_line mutator) replies.now) }
 {

@@ -9,7 +9,7 @@ use nmgc_limits::SHARED_MAKER;
 use nmgc_lists::NoMemory;
 use nmgc_world_spec::{Name, Value};
 
-/// Appends the bytes of the token `word` as they are.
+/// Appends the bytes of `word`, which is a token or other text, as they are.
 pub fn push_word(out: &mut Vec<u8>, word: &[u8]) -> Result<(), NoMemory>
     ensures { OnOk result (out.new.items ≡ out.old.items ++ word.now) }
 {
@@ -25,8 +25,7 @@ pub fn push_count(out: &mut Vec<u8>, word: &[u8], number: u64) -> Result<(), NoM
     push_number(out, number)
 }
 
-/// Appends the text of a value: `nil`, a number's decimal digits, or a name. After `NoMemory` a part of the text may be in
-/// `out`, so `out` isn't used again.
+/// Appends the text of a value: `nil`, a number's digits, or a name. After `NoMemory` a part of the text may be in `out`.
 pub fn push_value(out: &mut Vec<u8>, value: Value) -> Result<(), NoMemory>
     ensures { OnOk result (out.new.items ≡ out.old.items ++ value_text value) }
 {
@@ -37,8 +36,8 @@ pub fn push_value(out: &mut Vec<u8>, value: Value) -> Result<(), NoMemory>
     }
 }
 
-/// Appends the text of a name: its maker and its serial with a full stop between, or `g`. After `NoMemory` a part of the text
-/// may be in `out`, so `out` isn't used again.
+/// Appends the text of a name: its maker and its serial with a full stop between, or `g` for the shared array. After
+/// `NoMemory` a part of the text may be in `out`.
 pub fn push_name(out: &mut Vec<u8>, name: Name) -> Result<(), NoMemory>
     ensures { OnOk result (out.new.items ≡ out.old.items ++ name_text name) }
 {

@@ -1,9 +1,9 @@
 //! The limits of the size of a heap and of the numbers of a run.
 //!
 //! The limits keep every address in the heap within 32 bits, and the whole heap within 2 GiB. Each number is written twice:
-//! in `specs/Limits.antt`, which every contract cites, and in the constants below, which the code uses. `limits_are_these`
-//! proves that the two are equal. So the proof fails if a crate compares with another number, or if a constant is changed
-//! alone.
+//! in `specs/Limits.antt`, which every contract cites, and in the constants below, which the code uses.
+//! `limits_are_as_specified` proves that the two are equal. So the proof fails if a constant is changed alone, or if a crate
+//! compares with another number.
 //!
 //! Easy to get wrong: a config alone can't keep the limit of the whole heap, since there is a nursery for each thread.
 #![tactic(auto)]
@@ -42,9 +42,8 @@ pub const MAX_TRIGGER: u32 = 65_536;
 /// The most bytes of a script. A version of scripts may allow fewer.
 pub const MAX_SCRIPT_BYTES: usize = 67_108_864;
 
-/// Proves that each constant here equals the number that `specs/Limits.antt` defines for it. It does nothing else: its
-/// contract is the law.
-pub fn limits_are_these()
+/// Does nothing, and proves that each constant of this module equals the number that `specs/Limits.antt` defines for it.
+pub fn limits_are_as_specified()
     ensures segments { MAX_SEGMENTS ≡ most_segments }
     ensures least_words { MIN_SEGMENT_WORDS ≡ least_segment_words }
     ensures most_words { MAX_SEGMENT_WORDS ≡ most_segment_words }

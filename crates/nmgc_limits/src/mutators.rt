@@ -1,7 +1,8 @@
 //! The numbers of mutators, registers and shared slots.
 //!
-//! Contracts, definitions and proofs of all crates use these numbers by their names. `constants_are_these` is the only law
-//! that gives their values. So a change of a number is a change of one line here and of that law.
+//! Contracts, definitions and proofs of all crates use these numbers by their names. Only the law `constants_are_these` gives
+//! their values. So to change a number, one line here and one of that law are enough, if `MAKERS` stays at most
+//! `SHARED_MAKER`.
 
 ghost use Rattle.std.specs.Prelude.{◌≡◌};
 
@@ -17,8 +18,8 @@ pub const SHARED_MAKER: u8 = 32;
 /// The number of slots of the shared array.
 pub const SHARED_SLOTS: u8 = 16;
 
-/// Proves the value of each constant, which contracts use by its name: 64 registers, 32 mutators, 32 as the maker of g, and
-/// 16 slots of g. It does nothing else: its contract is the law.
+/// Proves the value of each constant: 64 registers, at most 32 mutators, 32 as the maker of the shared array g, and 16 slots
+/// of g. Contracts use the constants by name. The function does nothing: its contract is the law.
 pub fn constants_are_these()
     ensures registers { REGISTERS ≡ 64 }
     ensures makers { MAKERS ≡ 32 }

@@ -1,6 +1,4 @@
-//! A fixed number of items in the value itself; the type has the number.
-//!
-//! An array in a struct of its own, so that a contract can give the value after a loan of its items.
+//! An array of items in a struct of its own, so that a contract can give the array after a loan of its items.
 ghost use Rattle.std.specs.{Prelude.◌≡◌, Prelude.◌≤◌, Prelude.take, Borrow.sem};
 
 /// An array of `N` items.
@@ -12,7 +10,7 @@ pub(crate) struct Cells<T, const N: usize> {
 impl<T, const N: usize> Cells<T, N> {
     ghost use Rattle.nmgc_lists.specs.Cells.{lends_front};
 
-    /// Lends the first `len` items, for writing.
+    /// Lends the first `len` items, for writing. Requires that `len` is at most `N`.
     #[inline]
     pub(crate) fn front_mut(&mut self, len: usize) -> &mut [T]
         requires { len ≤ N }

@@ -14,6 +14,7 @@ pub(crate) struct FixedVec<T, const N: usize> {
 impl<T, const N: usize> FixedVec<T, N> {
     ghost use Rattle.nmgc_lists.specs.FixedVec.{lends_items};
 
+    /// Makes a `FixedVec` of these items, with `alloc` for the memory of more items.
     pub(crate) fn new(alloc: Global, items: [T; N]) -> Self
         ensures { result.cells.xs ≡ items }
     {
@@ -28,6 +29,7 @@ impl<T, const N: usize> FixedVec<T, N> {
         self.alloc
     }
 
+    /// Returns the items as an array.
     pub(crate) fn into_array(self) -> [T; N]
         ensures { result ≡ self.cells.xs }
     {
@@ -38,12 +40,14 @@ impl<T, const N: usize> FixedVec<T, N> {
         xs
     }
 
+    /// Returns the items in order.
     pub(crate) fn as_slice(&self) -> &[T]
         ensures { result.now ≡ self.now.cells.xs }
     {
         &self.cells.xs[..]
     }
 
+    /// Lends the items in order, for writing.
     pub(crate) fn as_mut_slice(&mut self) -> &mut [T]
         requires { length self.old.cells.xs ≡ N }
         ensures* writes_back { sem 𝓛 (lends_items T.row N.row self.entry result) }

@@ -68,7 +68,7 @@ impl<T> Items<T> {
     ghost use Rattle.std.specs.Borrow.{sem};
     ghost use Rattle.nmgc_lists.specs.ItemsLends.{LendsThem};
 
-    // Returns the allocator of the items' memory.
+    // Returns the allocator of the items' vector, or of the vector that they will be moved into.
     fn alloc(&self) -> Global {
         match self {
             Items::Empty(empty) => empty.alloc(),
@@ -78,6 +78,7 @@ impl<T> Items<T> {
         }
     }
 
+    // Returns the items in order.
     fn as_slice(&self) -> &[T]
         ensures { result.now ≡ items_of self.now }
     {
@@ -89,6 +90,7 @@ impl<T> Items<T> {
         }
     }
 
+    // Lends the items in order, for writing.
     fn as_mut_slice(&mut self) -> &mut [T]
         requires { HasExactLength self.old }
         ensures* writes_back { sem 𝓛 (LendsThem T.row self.entry result) }
@@ -119,7 +121,7 @@ fn one_item<T>(alloc: Global, item: T) -> Items<T>
     Items::Single(FixedVec::new(alloc, [item]))
 }
 
-// Returns the items in a vector: their own if they lie in one, and otherwise the empty vector `room`. Takes no memory.
+// Returns the items in their own vector if they lie in one, and otherwise in the empty vector `room`. Takes no memory.
 fn into_vector<T: Drop>(items: Items<T>, room: Vec<T>) -> Vec<T>
     requires full { HasExactLength items }
     requires empty { room.items ≡ [] }
@@ -149,7 +151,7 @@ fn into_vector<T: Drop>(items: Items<T>, room: Vec<T>) -> Vec<T>
     }
 }
 
-// Takes the last item off. Returns the items before it, and the item, or `None` if there is no item. Takes no memory.
+// Returns the items without the last, and the last item. If there are none, returns no items and `None`. Takes no memory.
 fn split_last<T: Drop>(items: Items<T>) -> (Items<T>, Option<T>)
     requires { HasExactLength items }
     ensures full { HasExactLength result.0 }
@@ -175,7 +177,7 @@ fn split_last<T: Drop>(items: Items<T>) -> (Items<T>, Option<T>)
     }
 }
 
-// Takes the first item off. Returns the item, or `None` if there is no item, and the items after it. Takes no memory.
+// Returns the first item, and the items after it. If there are none, returns `None` and no items. Takes no memory.
 fn split_first<T: Drop>(items: Items<T>) -> (Option<T>, Items<T>)
     requires { HasExactLength items }
     ensures full { HasExactLength result.1 }
@@ -201,7 +203,7 @@ fn split_first<T: Drop>(items: Items<T>) -> (Option<T>, Items<T>)
     }
 }
 
-// Takes the first item off a vector and returns it, or `None` exactly if the vector is empty. The other items are moved.
+// Takes the first item off a vector and returns it, or `None` exactly if the vector is empty. Moves all other items.
 fn remove_first<T>(items: &mut Vec<T>) -> Option<T>
     ensures first { IfSome result (λ item. items.old.items ≡ item ∷ items.new.items) }
     ensures empty { IfNone result ((items.old.items ≡ []) × (items.new.items ≡ [])) }
@@ -288,8 +290,8 @@ impl<T> List<T> {
         })
     }
 
-    /// Makes a list of a vector's items, in memory that was allocated before. Takes no memory, and constant time.
-    pub fn in_place(items: Vec<T>, place: ListMemory<T>) -> Self
+    /// Makes a list of a vector's items, in the memory `place`, allocated before. Takes no memory, and constant time.
+    pub fn from_vec_in(items: Vec<T>, place: ListMemory<T>) -> Self
     where
         T: Drop,
         ensures { result ≡ items.items }
@@ -325,7 +327,7 @@ impl<T> List<T> {
         self.items.as_mut_slice()
     }
 
-    /// Returns an equal list, in memory of its own.
+    /// Returns a list of the same items, in memory of its own.
     pub fn copy(&self, alloc: Global) -> Result<Self, NoMemory>
     where
         T: Copy,

@@ -58,7 +58,7 @@ impl<T> Queue<T> {
         Ok(())
     }
 
-    /// Drops all items except the first `count`, to take back additions after memory ran out. Takes no memory.
+    /// Drops all items except the first `count`, to take back additions. Requires at least `count` items. Takes no memory.
     pub fn truncate(&mut self, count: usize)
     where
         T: Drop,
@@ -68,8 +68,8 @@ impl<T> Queue<T> {
         self.items.truncate(self.first + count);
     }
 
-    /// Replaces the first item of a queue that isn't empty, as the marking machine does. Takes no memory, and constant time.
-    pub fn set_first(&mut self, item: T)
+    /// Replaces the first item. The queue may not be empty. Takes no memory, and constant time.
+    pub fn replace_first(&mut self, item: T)
     where
         T: Drop,
         requires { 0 < length self.old }

@@ -33,7 +33,7 @@ impl<T> Room<T> {
     ghost use Rattle.std.specs.Borrow.{sem};
     ghost use Rattle.nmgc_lists.specs.RoomLends.{LendsItems};
 
-    /// Makes an empty room, with no room for any item. Takes no memory.
+    /// Makes an empty list without room. Takes no memory.
     pub fn new(alloc: Global) -> Self
         ensures items { result.items ≡ [] }
         ensures spare { result.spare ≡ 0 }
@@ -43,7 +43,7 @@ impl<T> Room<T> {
         }
     }
 
-    /// Makes room for at least `more` further items. Items and room are never lost. After `NoMemory` nothing changed.
+    /// Makes room for at least `more` further items. The items stay, and no room is lost. After `NoMemory` nothing changed.
     pub fn reserve(&mut self, more: u32) -> Result<(), NoMemory>
         ensures items { self.new.items ≡ self.old.items }
         ensures ok { OnOk result (more ≤ self.new.spare) }
@@ -63,8 +63,8 @@ impl<T> Room<T> {
         self.items.push_reserved(item);
     }
 
-    /// Takes the last item off and returns it; its room is free again. Returns `None` exactly if there is no item. Takes no
-    /// memory, and constant time.
+    /// Takes the last item off and returns it. Returns `None`, and changes nothing, exactly if there is none. The item's room
+    /// is free again. Takes no memory, and constant time.
     pub fn take_last(&mut self) -> Option<T>
         ensures some { IfSome result (λ item. (self.old.items ≡ self.new.items ++ item ∷ []) × (self.new.spare ≡ self.old.spare + 1)) }
         ensures none { IfNone result ((self.old.items ≡ []) × (self.new ≡ self.old)) }
@@ -87,7 +87,7 @@ impl<T> Room<T> {
         self.items.as_mut_slice()
     }
 
-    /// Drops all items. The memory stays, so room is never lost.
+    /// Drops all items. The list keeps its memory, so the items' room is free again.
     pub fn clear(&mut self)
     where
         T: Drop,

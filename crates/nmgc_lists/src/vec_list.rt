@@ -30,20 +30,20 @@ impl<T> VecList<T> {
     ghost use Rattle.nmgc_lists.specs.PlacedLends.{LendsItems};
 
     /// Makes a list of a vector's items. `place` is the memory that `into_list` will use. Takes no memory.
-    pub fn of(items: Vec<T>, place: ListMemory<T>) -> Self
+    pub fn from_vec(items: Vec<T>, place: ListMemory<T>) -> Self
         ensures { result ≡ items.items }
     {
         VecList { items, place }
     }
 
-    /// Returns the items in order. No function of this type takes memory.
+    /// Returns the items in order. Takes no memory.
     pub fn items(&self) -> &[T]
         ensures { result.now ≡ self.now }
     {
         self.items.as_slice()
     }
 
-    /// Lends the items in order, for writing.
+    /// Lends the items in order, for writing. Takes no memory.
     pub fn items_mut(&mut self) -> &mut [T]
         ensures* writes_back { sem 𝓛 (LendsItems T.row self.entry result) }
         ensures value { result.now ≡ self.old }
@@ -51,13 +51,13 @@ impl<T> VecList<T> {
         self.items.as_mut_slice()
     }
 
-    /// Turns the list into a `List` with the same items, and returns it. Takes constant time.
+    /// Turns the list into a `List` with the same items, and returns it. Takes no memory, and constant time.
     pub fn into_list(self) -> List<T>
     where
         T: Drop,
         ensures { result ≡ self }
     {
         let VecList { items, place } = self;
-        List::in_place(items, place)
+        List::from_vec_in(items, place)
     }
 }

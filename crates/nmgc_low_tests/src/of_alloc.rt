@@ -206,7 +206,7 @@ fn sweeps_below_filled_segments(rt: HostRuntime) -> Result<(), Fail> {
 fn laws_ask_nothing(rt: HostRuntime) {
     let _ = &rt;
     laws::blocks_lie_apart();
-    laws::new();
+    laws::new_segments_are_all_free();
     laws::state_is_unique();
     laws::prepare_begins_a_cycle();
     laws::retire_all_files_as_filled();
@@ -215,17 +215,17 @@ fn laws_ask_nothing(rt: HostRuntime) {
     laws::sweep_next_sweeps_names();
     laws::carry_keeps_the_state();
     laws::mark_at_keeps_the_state();
-    laws::counts();
+    laws::counts_are_equal();
     laws::reserve_suffices();
     laws::placing_has_one_answer();
-    laws::states_stay();
+    laws::each_step_gives_a_state();
     laws::other_words_keep_the_state();
-    laws::counts_agree();
+    laws::counts_show_waiting_and_room();
     blocks::blocks_lie_in_segments();
-    blocks::blocks_begin_where_placed();
+    blocks::allocate_returns_a_block_in_use();
     blocks::snapshot_stays();
     blocks::marks_stay();
-    blocks::mark_at_marks_one_block();
+    blocks::mark_at_marks_at_most_one_block();
     blocks::block_counts_follow();
     blocks::marked_are_at_most_the_snapshot();
     name_laws::names_keep_their_blocks();

@@ -52,7 +52,7 @@ fn laws_ask_nothing(rt: HostRuntime) {
     laws::places_may_be_dropped::<Brand>();
     laws::places_may_be_added::<Brand>();
     laws::command_is_one_change();
-    laws::nothing_new_is_tracked();
+    laws::only_new_objects_become_tracked();
     laws::headers_stay::<Brand>();
     laws::objects_have_words::<Brand>();
     laws::a_small_world_has_words();

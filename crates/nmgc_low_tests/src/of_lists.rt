@@ -56,7 +56,7 @@ fn a_queue_changes_in_place(rt: HostRuntime) -> Result<(), Fail> {
     assert!(rt; queue.items().len() == 3);
     queue.truncate(2);
     assert!(rt; queue.items() == [3, 4].as_slice());
-    queue.set_first(7);
+    queue.replace_first(7);
     assert!(rt; queue.first() == Some(7));
     assert!(rt; !queue.is_empty());
     Ok(())

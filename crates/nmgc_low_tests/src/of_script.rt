@@ -1,5 +1,5 @@
 //! Scripts, good and bad, as tables. Refused texts are in `examples/rows/refusals.rows`, limits and upgrades in `versions.rows`.
-use nmgc_script::{Cause, ScriptFault, generate, parse, print, spells_one_script};
+use nmgc_script::{Cause, ScriptFault, a_text_spells_at_most_one_script, generate, parse, print};
 use std::alloc::Global;
 use std::process::Abort;
 use std::test::Fail;
@@ -78,7 +78,7 @@ fn reports_where_a_cut_text_ends(rt: HostRuntime) -> Result<(), Fail> {
 // The printed form of a text.
 fn reprinted(rt: &impl Abort, alloc: Global, text: &str) -> Result<Vec<u8>, Fail> {
     assert!(rt; text.len() <= 2147483648);
-    spells_one_script(text.as_bytes());
+    a_text_spells_at_most_one_script(text.as_bytes());
     let script = parse(alloc, text.as_bytes())?;
     Ok(print(alloc, &script)?)
 }

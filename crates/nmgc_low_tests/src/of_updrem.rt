@@ -146,7 +146,7 @@ fn inbox_of(alloc: Global, first: UpdReceiver, second: UpdReceiver) -> Result<In
     receivers.push(first)?;
     receivers.push(second)?;
     let place = ListMemory::new(alloc)?;
-    Ok(Inbox::new(VecList::of(receivers, place)))
+    Ok(Inbox::new(VecList::from_vec(receivers, place)))
 }
 
 // Polls a mutator's ring.
@@ -207,7 +207,7 @@ fn an_inbox_has_a_list_for_each_mutator(rt: HostRuntime) -> Result<(), Fail> {
 fn laws_ask_nothing(rt: HostRuntime) {
     let _ = &rt;
     laws::new_ends_are_a_line();
-    laws::a_line_goes_on();
+    laws::a_line_stays_a_line();
     laws::list_and_ring_are_what_was_sent();
     laws::level_ends_are_a_line();
     laws::new_ends_are_in_order();

@@ -1,7 +1,6 @@
--- The tie by addresses, for the opening of a round: the marker's marks and queue are the marking machine's.
---
--- An opening is a state of the marking machine with the objects in use, at a stop as well as in a round. The marks are that
--- state's, or the marks after the collector's scans. A marker represents blocks by their addresses.
+-- The tie by addresses, for the opening of a round: the marker's marks and queue are the marking machine's. An opening is a
+-- state of the marking machine with the objects in use, at a stop as well as in a round. The marks are that state's, or the
+-- marks after the collector's scans. A marker represents blocks by their addresses.
 use Rattle.std.specs.Prelude.{ℕ, ◌≡◌, ◌+◌, ◌≤◌, ◌⊎◌, ◌↔◌, List, [], ◌∷◌, length, Contains, IsSome}
 use Rattle.nmgc_world_spec.specs.{declared.value.Name.Name, World.node_of, Step.shared_name}
 use Rattle.nmgc_object.specs.{Places.word_total, FinQueue.FinQueue, declared.layout.Layout.Layout, declared.size.TheConstants.HEADER_WORDS}

@@ -10,11 +10,10 @@ use nmgc_heap_spec::HeapWords;
 use nmgc_round::laws;
 
 impl Marker {
-    /// Scans until the queue is empty, with the mutators stopped.
-    ///
-    /// Before the call, the words represent the world of a marking machine that could open a round, and the marker has the
-    /// marks and the queue of that machine. After it, the marker has the marks that the same machine has once it has scanned
-    /// its whole queue. No word changes. The gate isn't passed, and the count of its passes stays. Takes no memory.
+    /// Scans until the queue is empty, with the mutators stopped. Requires room in the marker (`HasRoomToMark`), and that a
+    /// round could start now (`IsReady`): the words represent the world of a marking machine that has the marker's marks and
+    /// queue. Scans alone then lead this machine to the marker's marks and an empty queue. No word changes. The gate isn't
+    /// passed, and the count of its passes stays. Takes no memory.
     pub fn finish<W: HeapWords>(&mut self, words: &mut W, segments: &mut Segments)
         requires room { HasRoomToMark segments.old self.old }
         requires ready { (o : Opening) × IsReady o (W.words words.old) segments.old self.old }
@@ -24,7 +23,7 @@ impl Marker {
         ensures empty { self.new.queue ≡ [] }
         ensures finished { (o : Opening) → IsReady o (W.words words.old) segments.old self.old → HasFinished o segments.new self.new }
     {
-        laws::words_open();
+        laws::openings_keep_the_rule();
         while let Some(at) = self.take_first() {
             self.scan(&AtStop, words, segments, at);
         }

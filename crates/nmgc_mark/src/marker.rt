@@ -1,7 +1,6 @@
-//! The marker of one cycle: its beginning, and the effect of one mark.
-//!
-//! All marked addresses are in one list in the order of marking. The addresses before an index were scanned, and the rest is
-//! the queue. So an address is queued at most once in a cycle, and the list never needs more room than there are blocks.
+//! The marker of one cycle: its beginning, and the effect of one mark. All marked addresses are in one list in the order of
+//! marking. The addresses before an index were scanned, and the rest is the queue. So an address is queued at most once in a
+//! cycle, and the list never needs more room than there are blocks.
 //!
 //! Easy to get wrong: a pointer may lead to g or to a new object, and no block begins there. So each mark is a try, and a
 //! single look-up finds whether a block begins at the address, and which block.
@@ -72,7 +71,7 @@ pub fn most_blocks(layout: Layout) -> u32
 }
 
 impl Marker {
-    /// Makes a marker that has marked nothing, with memory for `blocks` blocks, and takes no other memory. `turns` is 0.
+    /// Makes a marker that has marked nothing, with room for `blocks` blocks, and takes no other memory. Its `turns` is 0.
     pub fn blank(alloc: Global, epoch: u8, blocks: u32) -> Result<Marker, NoMemory>
         requires { IsEpoch epoch }
         ensures { IfOk result (λ marker. marker ≡ blank epoch blocks) }
@@ -88,10 +87,10 @@ impl Marker {
         })
     }
 
-    /// Makes the marker of a cycle that begins: it has marked and queued the targets of registers, finaliser queues and the
-    /// slots of g, in this order. The marking machine opens with these marks and this queue. `Segments::prepare` came before,
-    /// so no mark byte is the epoch. Registers and queues are read in place. The marker has room for every block, which is
-    /// the only memory that it takes, and its `turns` is 0. After `NoMemory` no block was marked.
+    /// Makes the marker of a cycle that begins. The marker has marked and queued the targets of registers, finaliser queues
+    /// and slots of g, in this order. The marking machine opens with these marks and this queue. Requires that marking may
+    /// begin (`IsBeginning`): no mark byte is the epoch, and blocks and roots are the snapshot's. Takes memory only for room
+    /// for every block. The marker's `turns` is 0. After `NoMemory` no block was marked.
     pub fn snapshot<W: HeapWords, M: MutatorRoots>(
         alloc: Global,
         words: &mut W,
@@ -118,7 +117,7 @@ impl Marker {
         Ok(marker)
     }
 
-    // Marks and queues the targets of words, in order.
+    // Marks and queues the target of each word, in order, if the target is a block of the snapshot that isn't marked yet.
     fn mark_all(&mut self, segments: &mut Segments, words: &[u64])
         requires room { HasRoomToMark segments.old self.old }
         requires small { (w at : ℕ) → Contains words.now w → w ≡ 2 * at → at < 2 ^ 32 }
@@ -131,7 +130,7 @@ impl Marker {
         }
     }
 
-    // Marks and queues the targets of the mutators' registers.
+    // Marks and queues the targets of the mutators' registers, as `mark_all` does.
     fn mark_registers<M: MutatorRoots>(&mut self, segments: &mut Segments, mutators: &[M])
         requires room { HasRoomToMark segments.old self.old }
         requires small { (w at : ℕ) → Contains (flat_map M.registers mutators.now) w → w ≡ 2 * at → at < 2 ^ 32 }
@@ -145,7 +144,7 @@ impl Marker {
         }
     }
 
-    // Marks and queues the targets of the mutators' finaliser queues.
+    // Marks and queues the targets of the mutators' finaliser queues, as `mark_all` does.
     fn mark_queues<M: MutatorRoots>(&mut self, segments: &mut Segments, mutators: &[M])
         requires room { HasRoomToMark segments.old self.old }
         requires small { (w at : ℕ) → Contains (queue_words (map M.queue mutators.now)) w → w ≡ 2 * at → at < 2 ^ 32 }
@@ -159,7 +158,7 @@ impl Marker {
         }
     }
 
-    // Marks and queues the targets of the slots of g.
+    // Marks and queues the targets of the slots of g, as `mark_all` does.
     fn mark_shared<W: HeapWords>(&mut self, words: &mut W, segments: &mut Segments)
         requires room { HasRoomToMark segments.old self.old }
         requires inside { FIRST_PLACE ≤ length (W.words words.old) }
@@ -177,9 +176,9 @@ impl Marker {
         }
     }
 
-    /// Marks and queues, in order, the blocks at remembered addresses that are in the snapshot and weren't marked. In the
-    /// marking machine this marks the mutator's pushed names. An address without a block is passed over. The count of the
-    /// gate's passes stays.
+    /// Marks and queues the block at each of the remembered addresses `entries`, in order, if it is in the snapshot and not
+    /// marked yet. In the marking machine this marks the names at these addresses. An address without a block is passed over.
+    /// The count of the gate's passes stays.
     pub fn add(&mut self, segments: &mut Segments, entries: &[Address])
         requires { HasRoomToMark segments.old self.old }
         ensures marked { HasMarked segments.old segments.new self.old self.new 0 }
@@ -187,12 +186,12 @@ impl Marker {
         ensures tied { (o : Opening) (m : Marks) → IsTied o m segments.old self.old → IsTied o (with_places o m (places entries.now)) segments.new self.new }
     {
         for at in entries {
-            self.mark(segments, *at);
+            self.mark_at(segments, *at);
         }
     }
 
-    /// Marks and queues a block, if the block is in the snapshot and wasn't marked: block `block` of segment `number`, at the
-    /// address `at`. A caller that has found the block needs no second look-up. The count of the gate's passes stays.
+    /// Marks and queues block `block` of segment `number`, which begins at the address `at`, if it is in the snapshot and not
+    /// marked yet. A caller that has found the block needs no second look-up. The count of the gate's passes stays.
     pub fn mark_block(&mut self, segments: &mut Segments, at: Address, number: u32, block: u32)
         requires room { HasRoomToMark segments.old self.old }
         requires begins { IsBlockAt segments.old number block at.0 }
@@ -203,7 +202,7 @@ impl Marker {
     {
         let epoch = self.epoch();
         let _ = segments.layout();
-        if segments.mark(number, block, epoch) {
+        if segments.try_mark(number, block, epoch) {
             self.queue(at);
         }
     }
@@ -259,8 +258,8 @@ impl Marker {
         Some(at)
     }
 
-    // Looks at the headers of the next `AHEAD` objects in the queue, once in `AHEAD` calls: `scanned` objects were scanned in
-    // this round so far. So the waits for these headers overlap, each far from the one before. The seat's view stays.
+    // If `scanned` is a multiple of `AHEAD`, looks at the headers of the next `AHEAD` objects in the queue, or of all if
+    // there are fewer. Headers lie far apart, so the waits for memory overlap. The seat's view stays.
     pub(crate) fn look_ahead(&self, round: &Round, seat: &mut CollectorSeat, scanned: u32)
         requires { IsAt round.now seat.old }
         ensures { Knows round.now seat.old seat.new (seen seat.old) }
@@ -276,7 +275,7 @@ impl Marker {
         }
     }
 
-    // Appends the address of a marked block to the queue.
+    // Appends the address of a block that was just marked to the queue, and counts the block. Requires room for it.
     fn queue(&mut self, at: Address)
         requires { 0 < self.old.spare }
         ensures { self.new ≡ record self.old { queue = self.old.queue ++ at.0 ∷ []; spare = self.old.spare - 1; marked = self.old.marked + 1 } }
@@ -284,8 +283,8 @@ impl Marker {
         self.found.add(at);
     }
 
-    // Marks and queues the block that begins at an address, if the block is in the snapshot and wasn't marked.
-    fn mark(&mut self, segments: &mut Segments, at: Address)
+    // Marks and queues the block that begins at an address, if a block of the snapshot begins there and isn't marked yet.
+    fn mark_at(&mut self, segments: &mut Segments, at: Address)
         requires { HasRoomToMark segments.old self.old }
         ensures { MarksAt segments.old segments.new self.old self.new at.0 }
     {
@@ -296,8 +295,7 @@ impl Marker {
         }
     }
 
-    /// Marks and queues the block to which a field's word points, if the block is in the snapshot and wasn't marked. The
-    /// count of the gate's passes stays.
+    /// Marks and queues the target of a field's word, if the target is an unmarked block of the snapshot. `turns` stays.
     pub fn mark_word(&mut self, segments: &mut Segments, word: u64)
         requires room { HasRoomToMark segments.old self.old }
         requires small { (at : ℕ) → word ≡ 2 * at → at < 2 ^ 32 }
@@ -312,6 +310,6 @@ impl Marker {
         if at == 0 {
             return;
         }
-        self.mark(segments, Address(at as u32));
+        self.mark_at(segments, Address(at as u32));
     }
 }

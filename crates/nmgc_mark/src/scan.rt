@@ -1,11 +1,10 @@
 //! Scanning an object: its header, and then field after field.
 //!
-//! Each word of an object is one scan of the marking machine, and the target of a field is marked before the next field is
-//! read. Beside the mutators, the collector's seat loads the words. At a stop, with the mutators stopped, plain loads are
-//! enough, and they too count as scans of the machine. The collector's work at a stop is a round in which no mutator does
-//! anything (`specs/Stopped.antt`), and a law of rounds says what a scan does there. Since the collector is alone, that round
-//! needs no table. So one loop, over a trait that says how a load changes the collector's knowledge, serves both kinds of
-//! load.
+//! Each scanned word of an object, its header and then fields, is one scan of the marking machine. The target of a field is
+//! marked before the next field is read. Beside the mutators, the collector's seat loads the words. At a stop, plain loads
+//! are enough, and they too count as scans. The collector's work is then a round without mutators' steps
+//! (`specs/Stopped.antt`), which needs no table. One loop serves both kinds of load, over a trait that says how a load
+//! changes the collector's view.
 //!
 //! Easy to get wrong: a thunk's result is its first field, and if it was set, nothing else of the thunk is scanned. So that
 //! field is scanned before the loop, which looks for no result.
@@ -26,7 +25,8 @@ pub(crate) trait ScanLoad<S> {
     // Only scans lead from the first source to the second, and the collector may have this view by then.
     ghost shows: { Self → S → S → Seen → Type 0 };
 
-    /// Loads and returns the word that a view scans next, `offset` words after `at`. The view then has one more scan.
+    /// Loads and returns the word that is `offset` words after `at`. Requires that the collector may have a view (`shows`)
+    /// that scans this word next (`CanScan`). Each such view then has one more scan, with this word.
     fn load(&self, source: &mut S, at: Address, offset: u32) -> u64
         requires { (first : S) × (v : Seen) × shows self.now first source.old v × CanScan v at.0 offset × (at.0 + offset < word_total v.opening.layout) }
         ensures { (first : S) (v : Seen) → shows self.now first source.old v → CanScan v at.0 offset →
@@ -48,12 +48,12 @@ impl<W: HeapWords> ScanLoad<W> for AtStop {
     ghost shows = { λ stop first words v. WordsShow (W.words first) (W.words words) v };
 
     fn load(&self, source: &mut W, at: Address, offset: u32) -> u64 {
-        laws::scan();
+        laws::scans_keep_the_rule();
         source.load(at.0 as usize + offset as usize)
     }
 }
 
-/// Returns the number of fields that are scanned in an object: all its fields, but 0 for a weak pointer.
+/// Returns the number of fields to scan in an object: none in a weak pointer, else all. (`scan` stops at a thunk's result.)
 fn fields_scanned(header: Header) -> u32
     ensures { result ≡ fields_scanned header.kind header.fields }
 {
@@ -74,7 +74,8 @@ fn is_thunk(header: Header) -> bool
 }
 
 impl Marker {
-    // Scans the next field of the object that is being scanned: loads its word, marks the target, and returns the word.
+    // Scans field `field` of the object at `at`: loads the field's word, marks its target, and returns the word. Requires
+    // that the view's next scan is of this field (`IsScanning`), and room in the marker (`HasRoomToMark`).
     fn scan_field<S, L: ScanLoad<S>>(
         &mut self,
         loads: &L,
@@ -92,13 +93,16 @@ impl Marker {
             L.shows loads.now first source.new (scanned_by v result) ×
             IsTied v.opening (with_name v.opening.core.snapshot (rest_of (marks_seen v)) (name_meant v.opening.places result)) segments.new self.new }
     {
+        // Note [Lines that do nothing] in `nmgc_alloc`: this gives the prover that all segments are sound.
         let _ = segments.layout();
         let word = loads.load(source, at, HEADER_WORDS + field);
         self.mark_word(segments, word);
         word
     }
 
-    /// Scans an object to its end, and marks the targets of its scanned fields. It has to be the view's next object, unread.
+    /// Scans the object at `at`, and marks the targets of its scanned fields. If a thunk has a result, its other fields
+    /// aren't scanned. Requires room in the marker. The object has to be first in the view's queue and taken off the
+    /// marker's, with marks and the other entries tied (`IsScanning`). Afterwards all is tied (`IsDone`).
     pub(crate) fn scan<S, L: ScanLoad<S>>(
         &mut self,
         loads: &L,

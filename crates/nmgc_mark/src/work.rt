@@ -1,13 +1,13 @@
 //! Scanning beside the mutators.
 //!
-//! Each word of an object is one load of the round, and one scan of the marking machine (`scan`). An object is scanned to its
-//! end once it is begun. So between two calls every queued object is still to be scanned from its header on.
+//! Each scanned word of an object (its header, then fields) is one load of the round, and one scan of the marking machine
+//! (`scan`). An object is scanned to its end once it is begun. So between two calls every queued object is still to be
+//! scanned from its header on.
 //!
-//! Before each object the rings of all mutators are polled once: a block of remembered addresses goes to the collector's own
-//! list, and is marked at the stop. So a mutator finds free slots again while the marker is at work.
-//!
-//! Marking waits for memory more than it computes, since the next object's header is far away. So at every eighth object the
-//! headers of the next eight are looked at together (`Round::look_ahead`), which is no scan.
+//! Before each object each mutator's ring is polled once. At most one block of remembered addresses moves from the ring to
+//! the collector's list, and the stop marks them. So a mutator finds free slots again while the marker is at work. Marking
+//! waits for memory more than it computes, since the next object's header is far away. So at every eighth object the headers
+//! of the next eight are looked at together (`Round::look_ahead`), which is no scan.
 //!
 //! Easy to get wrong: only `empty` says whether anything is left. A round that scans its whole quota may leave nothing.
 ghost use Rattle.std.specs.Prelude.{◌≡◌, ◌<◌, ◌≤◌, [], ◌↔◌, IsTrue, length};
@@ -30,16 +30,15 @@ impl Marker {
         gate.pass(MAKERS, self.turns);
     }
 
-    /// Scans at most `quota` objects from the queue's front beside the mutators, and returns their number and whether the
-    /// queue is empty. Each object is scanned to its end, each word by the scan load. Before each object the gate is passed
-    /// and counted (clause `turns`), and each mutator's ring is polled once. No clause says that the gate is called or that a
-    /// ring is polled; tests show both. The inbox has a receiver for each mutator.
+    /// Scans at most `quota` objects from the queue's front beside the mutators. Returns their number, and whether the queue
+    /// is empty. If fewer than `quota` were scanned, it is empty. Each object is scanned to its end, with one
+    /// `Round::scan_load` for each scanned word. Before each object the gate is passed and counted (clause `turns`), and each
+    /// mutator's ring is polled once. No clause says that the gate is called or that a ring is polled; tests show both.
+    /// Headers are looked at ahead of the scans, which leaves the seat's view as it is.
     ///
-    /// The headers of several objects are looked at before these objects are scanned, and the seat learns nothing from this.
-    ///
-    /// Before and after, the marker has the marks and queue of the marking machine in the collector's view. Each object is
-    /// scanned once in a cycle, and a marked object that isn't queued was scanned. `empty` is false exactly if `quota`
-    /// objects were scanned and the queue isn't empty. Takes no memory, and waits only for the gate.
+    /// Requires that the seat is the collector's in this round, and that the inbox has a receiver for each mutator. Requires
+    /// room for each unmarked block of the snapshot (`HasRoomToMark`), and a tied marker: it has the marks and the queue of
+    /// the marking machine in the collector's view. It stays tied. Takes no memory, and waits only for the gate.
     pub fn work<G: Gate>(
         &mut self,
         round: &Round,

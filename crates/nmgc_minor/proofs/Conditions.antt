@@ -66,12 +66,7 @@ module _ (layout : Layout) (base : ℕ) (later earlier : List World) (places : L
       let last = y.1 (at + size_of node - 1) (omega arith) (omega arith) in
       let below = in_table n.maker (at + size_of node - 1) last in
       let total = r.total in
-      record {
-        header = header_of node;
-        valid = o.object.valid;
-        read = o.object.header;
-        inside = omega (arith, below, total, emptied);
-      }
+      record { header = header_of node; valid = o.object.valid; read = o.object.header; inside = omega (arith, below, total, emptied) }
 
   -- found objects can be followed
   pub found_can : (y : Young) → y.base ≡ base → length y.table.items ≡ layout.mutators * layout.nursery → (at : ℕ) →

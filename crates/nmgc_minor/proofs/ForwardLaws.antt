@@ -263,12 +263,7 @@ copy_header base forward old cur all done m some can f c =
     let h = can.each m c in
     let o = h.0 in
     let same = still_header base forward old cur all done m some can f c m.from.0 h.1 in
-    record {
-      header = o.header;
-      valid = o.valid;
-      read = same ∙ o.read;
-      inside = let e = f.total in let n = o.inside in omega (arith, e, n);
-    }
+    record { header = o.header; valid = o.valid; read = same ∙ o.read; inside = let e = f.total in let n = o.inside in omega (arith, e, n) }
 
 pub copies_more : (base : ℕ) (forward : ℕ → ℕ) (old cur new : List ℕ) (all : List Move) (i : ℕ) (m : Move) → CanCopyAll base old all →
     i < length all → m ≡ get_or all i m → CopiesAll forward old cur (take i all) → CopiesObject forward cur new m.from.0 m.to.0 →

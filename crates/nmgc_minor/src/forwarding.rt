@@ -14,8 +14,8 @@ use nmgc_limits::SHARED_SLOTS;
 use nmgc_object::laws::words_differ;
 use nmgc_object::{Address, FieldWord, HEADER_WORDS, SHARED_PLACE, fields_of};
 
-/// Returns the word to store once objects have moved. If the word points to an object with a new address in the table, it
-/// becomes a pointer to this address; every other word is unchanged.
+/// Returns the word that replaces `word` once objects have moved. If `word` points to an object with a new address in the
+/// table, this is a pointer to the new address, and otherwise it is `word` itself.
 pub fn forward_word(table: &[u32], base: u32, word: u64) -> u64
     ensures { result ≡ forward_word table.now base word }
 {
@@ -38,7 +38,7 @@ pub fn forward_word(table: &[u32], base: u32, word: u64) -> u64
     }
 }
 
-/// Changes each word that points to a moved object into a pointer to the object's new address.
+/// Changes each word that points to a moved object into a pointer to the object's new address. Other words stay.
 pub fn forward_words(table: &[u32], base: u32, words: &mut [u64])
     ensures { words.new ≡ map (forward_word table.now base) words.old }
 {
@@ -47,8 +47,8 @@ pub fn forward_words(table: &[u32], base: u32, words: &mut [u64])
     }
 }
 
-// Stores a word at an address, unless the address has this word already. In the table of a run a store costs several loads,
-// and a block that is used again often gets the words that it had.
+// Stores a word at an address, unless the address has this word already. In a run's heap a store costs several loads, and a
+// block that is used again often gets the words that it had.
 fn store_if_changed<W: HeapWords>(words: &mut W, at: usize, word: u64)
     requires { at < length (W.words words.old) }
     ensures { W.words words.new ≡ set (W.words words.old) at word }
@@ -58,8 +58,8 @@ fn store_if_changed<W: HeapWords>(words: &mut W, at: usize, word: u64)
     }
 }
 
-// Changes the word at an address into a pointer to the new address, if it points to a moved object. Other words aren't stored
-// again, since a store costs several loads in the table of a run.
+// Changes the word at an address into a pointer to the object's new address, if it points to a moved object. Otherwise
+// nothing is stored, since a store costs several loads in a run's heap.
 fn forward_at<W: HeapWords>(table: &[u32], base: u32, words: &mut W, at: usize)
     requires { at < length (W.words words.old) }
     ensures { W.words words.new ≡ set (W.words words.old) at (forward_word table.now base (slice_index (W.words words.old) at)) }
@@ -71,7 +71,7 @@ fn forward_at<W: HeapWords>(table: &[u32], base: u32, words: &mut W, at: usize)
     }
 }
 
-/// Forwards the slots of g: pointers to moved objects lead to the new addresses.
+/// Forwards the slots of g: each slot that points to a moved object is changed to point to the new address.
 pub fn forward_shared<W: HeapWords>(table: &[u32], base: u32, words: &mut W)
     requires { FIRST_PLACE ≤ length (W.words words.old) }
     ensures { ForwardsAt (forward_word table.now base) (W.words words.old) (W.words words.new) IsSharedSlot }
@@ -82,7 +82,7 @@ pub fn forward_shared<W: HeapWords>(table: &[u32], base: u32, words: &mut W)
     }
 }
 
-// Forwards the fields at the addresses in `recorded`. An address may occur twice: a forwarded field doesn't change again.
+// Forwards the fields at the addresses in `recorded`. An address may occur twice. New addresses have to lie below `base`.
 fn forward_places<W: HeapWords>(table: &[u32], base: u32, words: &mut W, recorded: &[Address])
     requires inside { (at : Address) → Contains recorded.now at → at.0 < length (W.words words.old) }
     requires small { (k : ℕ) → slice_index table.now k < base }
@@ -93,7 +93,7 @@ fn forward_places<W: HeapWords>(table: &[u32], base: u32, words: &mut W, recorde
     }
 }
 
-/// Forwards the fields that the mutators recorded. A field may have been recorded more than once.
+/// Forwards the fields that the mutators recorded. A field may occur twice. New addresses have to lie below `base`.
 pub fn forward_recorded<W: HeapWords, M: MutatorRoots>(
     table: &[u32],
     base: u32,
@@ -110,7 +110,7 @@ pub fn forward_recorded<W: HeapWords, M: MutatorRoots>(
     }
 }
 
-// Copies `count` fields of an object to another address, each field forwarded.
+// Copies `count` fields of the object at `from` to the object at `to`, each forwarded. The copy has to lie below the object.
 fn copy_fields<W: HeapWords>(
     table: &[u32],
     base: u32,
@@ -140,7 +140,7 @@ fn field_count<W: HeapWords>(words: &mut W, from: u32) -> u32
     fields_of(words.load(from as usize))
 }
 
-// Copies a word to another address.
+// Copies the word at address `from` to address `to`.
 fn copy_word<W: HeapWords>(words: &mut W, from: usize, to: usize)
     requires from { from < length (W.words words.old) }
     requires to { to < length (W.words words.old) }
@@ -150,7 +150,7 @@ fn copy_word<W: HeapWords>(words: &mut W, from: usize, to: usize)
     store_if_changed(words, to, word);
 }
 
-// Copies the object at `from` to `to`, with its fields forwarded.
+// Copies the object at `from` to the address `to`, with its fields forwarded. The copy has to end below `from`.
 fn copy_object<W: HeapWords>(table: &[u32], base: u32, words: &mut W, from: u32, to: u32)
     requires header { HasHeader (W.words words.old) from }
     requires apart { (header : Header) → HasHeaderWord (W.words words.old) from header → to + HEADERS + header.fields ≤ from }
@@ -163,7 +163,7 @@ fn copy_object<W: HeapWords>(table: &[u32], base: u32, words: &mut W, from: u32,
     copy_word(words, from as usize + 1, to as usize + 1);
 }
 
-/// Copies each moved object to its new address, with its fields forwarded.
+/// Copies each moved object, its fields forwarded. The objects have to lie from `base` on, the copies below `base` and apart.
 pub fn copy_all<W: HeapWords>(table: &[u32], base: u32, words: &mut W, moves: &[Move])
     requires { CanCopyAll base (W.words words.old) moves.now }
     ensures { CopiesAll (forward_word table.now base) (W.words words.old) (W.words words.new) moves.now }

@@ -1,7 +1,7 @@
-//! The second pass through all nurseries, and through the words of a single nursery.
+//! The second pass, which places objects: through all nurseries, and through the words of a single nursery.
 //!
-//! Easy to get wrong: an object's words after its first have free entries, so the loop continues after the words of a found
-//! object. Since objects lie apart, their words are at most the nursery's words, and so the reserve suffices.
+//! Easy to get wrong: an object is found if its entry in the table isn't 0, and found objects don't overlap. So the loop
+//! continues after a found object's words. Together these words are at most the nursery's words, and the reserve suffices.
 ghost use Rattle.std.specs.Prelude.{ℕ, ◌≡◌, ◌+◌, ◌-◌, ◌*◌, ◌<◌, ◌≤◌, ◌⊎◌, ◌++◌, List, length, map};
 ghost use Rattle.nmgc_alloc.specs.{Reserve.KeepsReserve, Segments.IsSegments, Segments.IsMutator};
 ghost use Rattle.nmgc_stop_spec.specs.Nurseries.{AreEmpty};
@@ -12,8 +12,11 @@ use crate::placing::{Move, object_words, place_object};
 use nmgc_alloc::Segments;
 use nmgc_heap_spec::{HeapWords, MutatorRoots};
 use nmgc_lists::Room;
+use nmgc_object::Nursery;
 
-/// Gives a block to each found object from `from` on and below `to`, in address order. Notes the moves in list and table.
+/// Gives a block to each found object of a maker's nursery (`CanPlaceAll`), in order of addresses. Adds the moves to `moves`,
+/// and writes the new addresses to the table. The reserve has to suffice (`KeepsReserve`), or the nursery has to be empty. A
+/// sufficient reserve then suffices for the next maker. `moves` needs room for each used word. No word changes.
 pub fn place_nursery<W: HeapWords>(
     base: u32,
     table: &mut [u32],
@@ -21,30 +24,29 @@ pub fn place_nursery<W: HeapWords>(
     words: &mut W,
     segments: &mut Segments,
     maker: u8,
-    from: u32,
-    to: u32,
+    nursery: Nursery,
 )
     requires sound { IsSegments segments.old }
     requires maker { IsMutator segments.old.layout maker }
-    requires above { base ≤ from }
-    requires ordered { from ≤ to }
-    requires inside { to ≤ base + length table.old }
-    requires nursery { to ≤ from + segments.old.layout.nursery }
-    requires objects { CanPlaceAll segments.old.layout maker (W.words words.old) table.old base from to }
-    requires spare { to ≤ from + moves.old.spare }
-    requires reserve { KeepsReserve segments.old.layout segments.old.segments (maker * segments.old.layout.nursery) ⊎ (from ≡ to) }
+    requires above { base ≤ nursery.base }
+    requires ordered { nursery.base ≤ nursery.top }
+    requires inside { nursery.top ≤ base + length table.old }
+    requires nursery { nursery.top ≤ nursery.base + segments.old.layout.nursery }
+    requires objects { CanPlaceAll segments.old.layout maker (W.words words.old) table.old base nursery.base nursery.top }
+    requires spare { nursery.top ≤ nursery.base + moves.old.spare }
+    requires reserve { KeepsReserve segments.old.layout segments.old.segments (maker * segments.old.layout.nursery) ⊎ (nursery.base ≡ nursery.top) }
     ensures sound { IsSegments segments.new }
     ensures layout { segments.new.layout ≡ segments.old.layout }
     ensures places { (added : List Shown) × (moves.new.items ≡ moves.old.items ++ added) ×
-        PlacesRange base (W.words words.old) segments.old segments.new table.old table.new added from to }
-    ensures spare { moves.old.spare + from ≤ moves.new.spare + to }
+        PlacesRange base (W.words words.old) segments.old segments.new table.old table.new added nursery.base nursery.top }
+    ensures spare { moves.old.spare + nursery.base ≤ moves.new.spare + nursery.top }
     ensures room { moves.new.spare + length moves.new.items ≡ moves.old.spare + length moves.old.items }
     ensures reserve { KeepsReserve segments.old.layout segments.old.segments (maker * segments.old.layout.nursery) →
         KeepsReserve segments.new.layout segments.new.segments ((maker + 1) * segments.old.layout.nursery) }
     ensures same { W.words words.new ≡ W.words words.old }
 {
-    let mut at = from;
-    while at < to {
+    let mut at = nursery.base;
+    while at < nursery.top {
         let index = (at - base) as usize;
         if table[index] != 0 {
             let size = object_words(words, at);
@@ -58,7 +60,7 @@ pub fn place_nursery<W: HeapWords>(
     }
 }
 
-/// Gives a block to each found object in the nurseries, in order of addresses. Notes the moves in list and table.
+/// Gives a block to each found object in all nurseries, in order of addresses. The premises are as for `place_nursery`.
 pub fn place_nurseries<W: HeapWords, M: MutatorRoots>(
     base: u32,
     table: &mut [u32],
@@ -81,15 +83,6 @@ pub fn place_nurseries<W: HeapWords, M: MutatorRoots>(
 {
     for (maker, mutator) in mutators.iter().enumerate() {
         let nursery = mutator.nursery();
-        place_nursery(
-            base,
-            table,
-            moves,
-            words,
-            segments,
-            maker as u8,
-            nursery.base,
-            nursery.top,
-        );
+        place_nursery(base, table, moves, words, segments, maker as u8, nursery);
     }
 }

@@ -1,9 +1,7 @@
 //! The three passes over the words, and over the roots outside them.
 //!
-//! Between two promotions the working lists keep the objects found by the last promotion. The next promotion begins by
-//! setting their entries to 0, one by one. The table is as long as all nurseries, too long to be wiped at each stop.
-//!
-//! The contents of mutators are read and changed in place, one mutator after the other, without a list of them.
+//! Between two promotions the working lists keep the objects that the last promotion found. The next promotion first sets
+//! their entries to 0, since the table is too long to be wiped at each stop. Mutators are read and changed in place.
 //!
 //! Easy to get wrong: no pass writes to a nursery. So the third pass copies objects as the round left them, in any order.
 ghost use Rattle.std.specs.Prelude.{ℕ, ◌≡◌, ◌≢◌, ◌+◌, ◌*◌, ◌<◌, ◌≤◌, List, [], length, map, slice_index, Contains};
@@ -21,7 +19,7 @@ use nmgc_heap_spec::{HeapWords, MutatorRoots};
 use nmgc_lists::Room;
 use nmgc_object::{Address, FinQueue};
 
-// Runs the three passes over the words, and lists the moves. Registers and queues are only read.
+// Runs the passes over the words, and lists the moves in `moves`, which has to be empty, with room. Mutators are only read.
 fn promote_words<W: HeapWords, M: MutatorRoots>(
     young: &mut Young,
     moves: &mut Room<Move>,
@@ -56,7 +54,7 @@ fn promote_words<W: HeapWords, M: MutatorRoots>(
     copy_all(table, base, words, moves.items());
 }
 
-// Sets the table's entries of the objects in `found` to 0.
+// Sets the table's entries of the objects in `found` to 0. If no other entry was set, all entries are 0 then.
 fn clear_entries(base: u32, table: &mut [u32], found: &[Address])
     requires { (at : Address) → Contains found.now at → (base ≤ at.0) × (at.0 < base + length table.old) }
     ensures size { length table.new ≡ length table.old }
@@ -67,7 +65,7 @@ fn clear_entries(base: u32, table: &mut [u32], found: &[Address])
     }
 }
 
-// Forwards the words of a queue. If no word leads into a nursery, as in every run, the queue is neither read nor changed.
+// Forwards the words of a queue. A queue that is known to point into no nursery (`is_below`), as in every run, isn't read.
 fn forward_queue(table: &[u32], base: u32, queue: &mut FinQueue)
     ensures { queue.new ≡ forwarded (forward_word table.now base) queue.old }
 {
@@ -80,17 +78,18 @@ fn forward_queue(table: &[u32], base: u32, queue: &mut FinQueue)
     }
 }
 
-// Forwards a mutator's registers and queue, and empties its nursery and its lists of the round.
+// Forwards a mutator's registers and queue, and empties its nursery and its lists of the round: the recorded fields, and the
+// weak pointers made or finalised in the round.
 fn settle_one<M: MutatorRoots>(table: &[u32], base: u32, mutator: &mut M)
     ensures { mutator.new ≡
         promoted M.registers M.with_registers M.queue M.with_queue M.after_stop (forward_word table.now base) mutator.old }
 {
     forward_words(table, base, mutator.registers_mut());
     forward_queue(table, base, mutator.queue_mut());
-    mutator.empty();
+    mutator.forget_round();
 }
 
-// Forwards the registers and queues of all mutators, and empties their nurseries and their lists of the round.
+// Forwards the registers and queues of all mutators, and empties their nurseries and lists of the round (`settle_one`).
 fn settle<M: MutatorRoots>(table: &[u32], base: u32, mutators: &mut [M])
     ensures { mutators.new ≡
         map (promoted M.registers M.with_registers M.queue M.with_queue M.after_stop (forward_word table.now base)) mutators.old }
@@ -100,7 +99,8 @@ fn settle<M: MutatorRoots>(table: &[u32], base: u32, mutators: &mut [M])
     }
 }
 
-// Empties the working lists, and the table, of everything that the last promotion left in them.
+// Sets the table's entries of the found objects to 0: then all entries are 0. Empties the list of found objects and the list
+// of moves, and keeps their room.
 fn clear(young: &mut Young, moves: &mut Room<Move>)
     requires { IsResting young.old moves.old }
     ensures cleared { IsCleared young.new moves.new }
@@ -114,14 +114,15 @@ fn clear(young: &mut Young, moves: &mut Room<Move>)
 
 /// Runs the three passes of a promotion over words, registers, queues and nurseries. The words need not represent a world.
 ///
-/// The working lists have to fit the nurseries of the segments' layout. Pointers into the nurseries have to lead to objects
-/// that lie one after another in the used part of their maker's nursery. Either the reserve is free, or no nursery has an
-/// object (`specs/Promotes.antt`, `CanPromoteWith`).
+/// The working lists have to be as the last call left them, and to fit the nurseries of the segments' layout. Pointers into
+/// nurseries have to lead to objects that lie one after another in the used part of their maker's nursery. Either the reserve
+/// has to be free, or no nursery has an object (`specs/Promotes.antt`, `CanPromoteWith`).
 ///
-/// It copies exactly the nursery objects reachable from the roots, the slots of g, the recorded fields and the live new weak
-/// pointers. Each is copied once, in order of names; `moves` lists them. Each pointer to such an object leads to its new
-/// address: in registers and queues, the slots of g, the recorded fields and the copies. No other word changes. The nurseries
-/// and the lists of the round are empty afterwards. Takes no memory.
+/// It copies exactly the surviving nursery objects. Strong fields reach them from the roots, the slots of g, the recorded
+/// fields, and new weak pointers that are alive with their parts. Each is copied once, in order of addresses; `moves` lists
+/// them. Each pointer to such an object leads to its new address: in registers and queues, the slots of g, the recorded
+/// fields and the copies. Other words below the nurseries stay. Each mutator's nursery and lists of the round (`after_stop`)
+/// are empty afterwards. Takes no memory.
 pub fn run_passes<W: HeapWords, M: MutatorRoots>(
     young: &mut Young,
     moves: &mut Room<Move>,
@@ -144,6 +145,7 @@ pub fn run_passes<W: HeapWords, M: MutatorRoots>(
     ensures size { length young.new.table.items ≡ length young.old.table.items }
     ensures resting { IsResting young.new moves.new }
 {
+    // Note [Lines that do nothing] in `nmgc_alloc`: this gives the prover that all segments are sound.
     let _ = segments.layout();
     clear(young, moves);
     promote_words(young, moves, words, segments, mutators);

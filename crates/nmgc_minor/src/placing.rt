@@ -1,7 +1,4 @@
-//! The second pass: each found object is given a block, in order of names.
-//!
-//! The words are only read here. A nursery's objects lie in the order of their serials, and the nurseries in the order of
-//! their makers. So the table is read from its beginning on, and no sort is needed.
+//! The second pass: each found object is given a block, in order of names. This is the table's order, so nothing is sorted.
 ghost use Rattle.std.specs.Prelude.{ℕ, ◌≡◌, ◌+◌, ◌<◌, ◌≤◌, ◌*◌, ◌++◌, List, length, slice_index};
 ghost use Rattle.nmgc_object.specs.{Size.block_size, Words.name_word, declared.words.Header.Header, declared.size.TheConstants.HEADER_WORDS as HEADERS, declared.size.TheConstants.MAX_BLOCK_WORDS};
 ghost use Rattle.nmgc_alloc.specs.{Reserve.KeepsReserve, Segments.IsSegments, Segments.IsMutator, Segments.IsClass, Segments.HasRoom};
@@ -33,8 +30,8 @@ pub fn object_words<W: HeapWords>(words: &mut W, from: u32) -> u32
     HEADER_WORDS + fields_of(words.load(from as usize))
 }
 
-/// Allocates the block that the nursery object at `from` will move to, and returns the move. The block is of the smallest
-/// class that holds the object's `size` words, header and name included. Nothing is copied: no word changes.
+/// Allocates the block to which `maker`'s nursery object at `from` will move, and returns the move. The block is of the
+/// smallest class that holds the object's `size` words. The maker needs room for each class (`HasRoom`). No word changes.
 pub fn place_object<W: HeapWords>(
     words: &mut W,
     segments: &mut Segments,
@@ -56,6 +53,7 @@ pub fn place_object<W: HeapWords>(
     let class = class_of(size);
     let name = name_of(words.load(from as usize + 1));
     let to = segments.allocate(maker, class);
+    // Note [Lines that do nothing] in `nmgc_alloc`: this gives the prover that all segments are sound.
     let _ = segments.layout();
     Move {
         name,

@@ -43,7 +43,7 @@ impl Promotion {
     ghost use Rattle.nmgc_object.specs.Places.{IsLayout};
     ghost use Rattle.nmgc_minor.specs.Promotion.{IsFor};
 
-    /// Makes a promotion with all the memory that promotions of this layout need.
+    /// Makes the working lists of promotion, with all the memory that promotions in this layout need.
     pub fn reserve(alloc: Global, layout: Layout) -> Result<Self, NoMemory>
         requires { IsLayout layout }
         ensures { IfOk result (IsFor layout) }
@@ -73,14 +73,15 @@ impl Promotion {
     /// is changed, in the roots, the slots of g, the recorded fields and the moved objects, so the words represent the same
     /// world. No mark and no snapshot index changes. No more objects move than the nurseries have words. Takes no memory.
     ///
-    /// The mutators' registers, queues and nurseries are read and changed in place, and so are their two lists of the round.
-    /// Nurseries and lists are empty afterwards, and finaliser queues keep their room. A mutator's `recorded` has the
-    /// addresses of the fields of older objects in which it stored a new object in the round. Its `young_weaks` has the weak
-    /// pointers that it made. Either at least the layout's reserve of segments has to be free, or no nursery has an object.
+    /// Requires that words, segments and mutators represent a heap at a stop (`IsStopped`). In particular, either at least
+    /// the layout's reserve of segments is free, or no nursery has an object. A mutator's `recorded` has the addresses of the
+    /// fields of older objects in which it stored a new object in the round. Its `young_weaks` has the weak pointers that it
+    /// made in the round. Afterwards nurseries and lists of the round are empty, and queues keep their room.
     ///
-    /// The time is proportional to the objects that this and the last promotion move, the fields of this one's objects, the
-    /// roots, both lists and the nurseries' used words. It grows neither with the heap nor with unused words: the table is
-    /// read only for used words, except a found object's later words. If a segment was filled, add the search for the next.
+    /// The time is proportional to the objects that this and the last promotion move, the fields of this promotion's objects,
+    /// the roots, `recorded`, `young_weaks` and the nurseries' used words. Apart from placing it doesn't grow with heap or
+    /// unused words: the table is read only for used words, without a found object's later words. Placing adds searches: in a
+    /// segment for the next unused block, and for the next segment if one was filled.
     pub fn promote<W: HeapWords, M: MutatorRoots>(
         &mut self,
         words: &mut W,

@@ -1,4 +1,4 @@
-//! The first pass: the words from which the search starts, and the search.
+//! The first pass: the words at which the search starts, and the search. A weak pointer is alive if its value isn't 0.
 ghost use Rattle.std.specs.Prelude.{ℕ, ◌≡◌, ◌+◌, ◌≤◌, ◌<◌, List, [], length, map, slice_index, Contains};
 ghost use Rattle.std.specs.List.{flat_map};
 ghost use Rattle.nmgc_limits.specs.declared.mutators.TheConstants.{SHARED_SLOTS};
@@ -11,7 +11,7 @@ use nmgc_limits::SHARED_SLOTS;
 use nmgc_object::words::WEAK_FIELDS;
 use nmgc_object::{Address, FieldWord, FinQueue, HEADER_WORDS, SHARED_PLACE};
 
-// Notes the nursery objects to which the mutators' registers point.
+// Notes as found the nursery objects to which the mutators' registers point.
 fn note_registers<M: MutatorRoots>(young: &mut Young, mutators: &[M])
     requires young { IsYoung young.old }
     requires within { (word : ℕ) → Contains (flat_map M.registers mutators.now) word → IsWithin young.old word }
@@ -22,8 +22,8 @@ fn note_registers<M: MutatorRoots>(young: &mut Young, mutators: &[M])
     }
 }
 
-// Notes the nursery objects to which a queue points. A queue without nursery objects isn't read. In a run no queue has
-// nursery objects: words join a queue at a closing, when the nurseries are empty.
+// Notes as found the nursery objects to which a queue points. A queue that is known to point to none (`is_below`) isn't read.
+// In a run no queue is read: words join a queue at a closing, when the nurseries are empty.
 fn note_queue(young: &mut Young, queue: &FinQueue)
     requires young { IsYoung young.old }
     requires within { (word : ℕ) → Contains queue.now.words word → IsWithin young.old word }
@@ -35,7 +35,7 @@ fn note_queue(young: &mut Young, queue: &FinQueue)
     young.note_all(queue.words());
 }
 
-// Notes the nursery objects to which the mutators' queues point.
+// Notes as found the nursery objects to which the mutators' queues point.
 fn note_queues<M: MutatorRoots>(young: &mut Young, mutators: &[M])
     requires young { IsYoung young.old }
     requires within { (queue : Queue) (word : ℕ) → Contains (map M.queue mutators.now) queue → Contains queue.words word → IsWithin young.old word }
@@ -46,7 +46,7 @@ fn note_queues<M: MutatorRoots>(young: &mut Young, mutators: &[M])
     }
 }
 
-// Notes the nursery objects to which the fields at the addresses in `recorded` point.
+// Notes as found the nursery objects to which the fields at the addresses in `recorded` point.
 fn note_places<W: HeapWords>(young: &mut Young, words: &mut W, recorded: &[Address])
     requires young { IsYoung young.old }
     requires inside { (at : Address) → Contains recorded.now at → at.0 < length (W.words words.old) }
@@ -60,7 +60,7 @@ fn note_places<W: HeapWords>(young: &mut Young, words: &mut W, recorded: &[Addre
     }
 }
 
-// Notes the nursery objects to which the fields recorded by the mutators point.
+// Notes as found the nursery objects to which the fields recorded by the mutators point.
 fn note_recorded<W: HeapWords, M: MutatorRoots>(young: &mut Young, words: &mut W, mutators: &[M])
     requires young { IsYoung young.old }
     requires inside { (at : Address) → Contains (flat_map M.recorded mutators.now) at → at.0 < length (W.words words.old) }
@@ -74,7 +74,7 @@ fn note_recorded<W: HeapWords, M: MutatorRoots>(young: &mut Young, words: &mut W
     }
 }
 
-// Notes a new weak pointer that is alive, and the nursery objects in its parts. A dead weak pointer is skipped.
+// Notes as found the new weak pointer at `at` and the nursery objects to which its parts point, if the weak pointer is alive.
 fn note_weak<W: HeapWords>(young: &mut Young, words: &mut W, at: Address)
     requires young { IsYoung young.old }
     requires inside { at.0 + (HEADER_WORDS + WEAK_FIELDS) ≤ length (W.words words.old) }
@@ -89,7 +89,7 @@ fn note_weak<W: HeapWords>(young: &mut Young, words: &mut W, at: Address)
     }
 }
 
-// Notes the weak pointers in `weaks` that are alive, and the nursery objects in their parts.
+// Notes as found the weak pointers in `weaks` that are alive, and the nursery objects to which their parts point.
 fn note_all_weaks<W: HeapWords>(young: &mut Young, words: &mut W, weaks: &[Address])
     requires young { IsYoung young.old }
     requires inside { (at : Address) → Contains weaks.now at → at.0 + (HEADER_WORDS + WEAK_FIELDS) ≤ length (W.words words.old) }
@@ -102,7 +102,7 @@ fn note_all_weaks<W: HeapWords>(young: &mut Young, words: &mut W, weaks: &[Addre
     }
 }
 
-// Notes the mutators' new weak pointers that are alive, and the nursery objects in their parts.
+// Notes as found the mutators' new weak pointers that are alive, and the nursery objects to which their parts point.
 fn note_weaks<W: HeapWords, M: MutatorRoots>(young: &mut Young, words: &mut W, mutators: &[M])
     requires young { IsYoung young.old }
     requires inside { (at : Address) → Contains (flat_map M.young_weaks mutators.now) at → at.0 + (HEADER_WORDS + WEAK_FIELDS) ≤ length (W.words words.old) }
@@ -117,7 +117,7 @@ fn note_weaks<W: HeapWords, M: MutatorRoots>(young: &mut Young, words: &mut W, m
     }
 }
 
-// Notes the nursery objects to which the slots of g point.
+// Notes as found the nursery objects to which the slots of g point.
 fn note_shared<W: HeapWords>(young: &mut Young, words: &mut W)
     requires young { IsYoung young.old }
     requires inside { FIRST_PLACE ≤ length (W.words words.old) }
@@ -129,8 +129,10 @@ fn note_shared<W: HeapWords>(young: &mut Young, words: &mut W)
     young.note_range(words, first, first + usize::from(SHARED_SLOTS));
 }
 
-/// Finds the nursery objects that survive, and notes them in the table. It sets no mark byte, since mark bytes belong to the
-/// cycle. The contents of mutators are only read, in place.
+/// Finds the nursery objects that survive (`IsFound`): strong fields reach them from the words at which the search starts.
+/// Notes them in the table and in the list, which has to be empty. Each has to lie within the words, and its pointers into
+/// nurseries have to point into the table (`CanFollow`). Recorded fields and new weak pointers have to lie within the words
+/// too. Sets no mark byte, since mark bytes belong to the cycle. Words and mutators are only read.
 pub fn find_survivors<W: HeapWords, M: MutatorRoots>(
     young: &mut Young,
     words: &mut W,

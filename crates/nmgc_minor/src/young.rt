@@ -1,8 +1,8 @@
 //! The nursery objects that were found: a table by nursery word, and the list in which they wait.
 //!
 //! An entry of the table is 0 for a word at which no found object begins, `FOUND` for a found object, and from the second
-//! pass on its new address. No address is 0 or `FOUND`, since segments begin above g. Each found object is in the list once,
-//! and the list is read once, from its front.
+//! pass on its new address. No new address is 0 or `FOUND`, since segments begin above g. Each found object is in the list
+//! once, and the list is read once, from its front.
 ghost use Rattle.std.specs.Prelude.{ℕ, ◌≡◌, ◌+◌, ◌*◌, ◌<◌, ◌≤◌, ◌⊎◌, length, slice_index, Contains, IfSome, IfNone};
 ghost use Rattle.nmgc_minor.specs.Found.{IsFound};
 ghost use Rattle.nmgc_stop_spec.specs.Strong.{HasStrong, HasHeader, IsAmong, IsStrongRange};
@@ -24,8 +24,8 @@ pub struct Young {
     pub found: Room<Address>,
 }
 
-/// Returns the address of an object's first strong field, and the address after its last one. A thunk's only strong field is
-/// its result, if it has one; otherwise its strong fields are its free variables. A weak pointer has none.
+/// Returns the address of an object's first strong field, and the address after its last. They are equal if there is none, as
+/// in a weak pointer. The result of a thunk is its only strong field. A thunk without a result has its free variables.
 pub fn strong_fields<W: HeapWords>(words: &mut W, at: Address) -> (usize, usize)
     requires { HasHeader (W.words words.old) at.0 }
     ensures range { IsStrongRange (W.words words.old) at.0 result.0 result.1 }
@@ -51,7 +51,7 @@ pub fn strong_fields<W: HeapWords>(words: &mut W, at: Address) -> (usize, usize)
 impl Young {
     ghost use Rattle.nmgc_minor.specs.Young.{IsIn, IsYoung, IsWithin, Notes, PointsIn, CanFollow, Follows};
 
-    /// Returns the index of the table's entry for a word that points to a nursery object, and `None` for every other word.
+    /// Returns the table index of the address that a word points to, or `None` exactly if it points to none from `base` on.
     pub fn entry(&self, word: u64) -> Option<usize>
         ensures some { IfSome result (λ index. word ≡ 2 * (self.now.base + index)) }
         ensures none { IfNone result ((at : ℕ) → word ≡ 2 * at → self.now.base ≤ at → ⊥) }
@@ -114,7 +114,7 @@ impl Young {
         }
     }
 
-    /// Notes as found the nursery objects to which an object's strong fields point.
+    /// Notes as found the nursery objects to which the strong fields of the object at `at` point.
     fn note_fields<W: HeapWords>(&mut self, words: &mut W, at: Address)
         requires young { IsYoung self.old }
         requires can { CanFollow self.old (W.words words.old) at.0 }
@@ -126,7 +126,7 @@ impl Young {
         self.note_range(words, from, to);
     }
 
-    /// Notes as found all nursery objects that strong fields reach from objects found before. Each object is read once.
+    /// Notes as found all nursery objects that strong fields reach from the objects found before. Each object is read once.
     pub fn follow<W: HeapWords>(&mut self, words: &mut W)
         requires young { IsYoung self.old }
         requires can { (at : ℕ) → IsFound self.old.base (W.words words.old) (PointsIn self.old) at → CanFollow self.old (W.words words.old) at }

@@ -9,16 +9,17 @@
 //! weak pointer. So `deref` owes the value that it reads, and `finalise` owes the weak pointer that it kills, with value and
 //! finaliser. `owed_by` lists all (`specs/Owed.antt` of `nmgc_world_spec`).
 //!
-//! Then no object that was live at the snapshot is lost. The marker scans each marked object once. For each strong field of
-//! the snapshot, its target is marked, owed or pushed, or the field is unchanged and not scanned yet. In that case its object
-//! isn't marked, or its scan is still to come. A command that changes the field owes the target; the scan marks it. Stops
-//! give the marker all pushed references; a closing scans until nothing is queued. Mutators are stopped, so nothing is owed.
-//! So a marked object's strong fields have marked targets. The roots are marked, so all live objects of the snapshot are.
+//! Then no object live at the snapshot is lost. The marker scans each marked object once. The target of each strong field of
+//! the snapshot is marked, owed or pushed, or the field is unchanged and not scanned yet. In that case the field's object
+//! isn't marked, or its scan is still to come. A command that changes the field owes the target; a scan marks it. Stops give
+//! the marker all pushed references; a closing scans until nothing is queued. Mutators are stopped: nothing is owed. So a
+//! marked object's strong fields have marked targets. The roots are marked, so all objects are that strong fields reach from
+//! them. Resolving weak pointers marks the other live objects.
 //!
 //! New references need no push. A mutator gets references only from its registers and queue, and fields of objects that it
-//! holds. So their objects are live in the snapshot or made since, and objects made since are kept. So only objects live in
-//! the snapshot are marked, until weak pointers are resolved: marking is exact. (Reading or finalising a weak pointer makes
-//! more of the snapshot live.) `nmgc_core/src/core_machine.rt` has the argument, `nmgc_snapshot_laws` the theorem.
+//! holds. So the objects to which they lead are live in the snapshot, or were made since and are kept. Hence only objects
+//! live in the snapshot are marked, until weak pointers are resolved: marking is exact. (Reading or finalising a weak pointer
+//! makes more of the snapshot live.) `nmgc_core/src/core_machine.rt` argues this, `nmgc_snapshot_laws` proves it.
 //!
 //! A Dijkstra-style insertion barrier pushes the new word of each store, so no scanned field refers to an unmarked object. It
 //! may free an object in the cycle in which it became garbage. But a load into a register is no store, and the field may be
@@ -35,7 +36,7 @@
 //! The other barrier is the usual one of a generational heap, for references from segments into nurseries. A field in a
 //! segment that was given a nursery object is recorded (`record`, called by `set`, `cas`, `update` and `push_value`), since a
 //! promotion doesn't look through the segments. A finalised weak pointer in a segment is noted (`note_finalised`), since a
-//! stop doesn't look through the list of alive ones.
+//! stop doesn't look through the list of weak pointers that are alive.
 //!
 //! Easy to get wrong: the barrier pushes the old word, and records the field of the new one.
 ghost use Rattle.std.specs.Prelude.{◌≡◌, ◌++◌, ◌+◌, ◌*◌, ◌-◌, ◌^◌, ◌<◌, length, Some, ◌≤◌};
@@ -67,7 +68,7 @@ impl Mutator {
         at >= u64::from(FIRST_PLACE) && at < base
     }
 
-    // Records a field that was given `word`, if its object is in a segment and `word` refers to a nursery object.
+    // Records a field that was given `word`, if the field's object is in a segment and `word` refers to a nursery object.
     pub(crate) fn record(&mut self, at: Address, index: u32, word: u64)
         requires one { IsWhole self.old }
         requires place { at.0 + HEADER_WORDS + index < 2 ^ 32 }
@@ -94,7 +95,7 @@ impl Mutator {
         }
     }
 
-    // Pushes an owed word, if the round is marking and it refers to a segment: Note [Why the deletion barrier is enough].
+    // Pushes an owed word that refers to a segment, if the round is marking: Note [Why the deletion barrier is enough].
     pub(crate) fn push(&mut self, marking: bool, word: u64)
         requires one { IsWhole self.old }
         requires room { 0 < self.old.updrem.spare }

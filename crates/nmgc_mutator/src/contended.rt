@@ -17,8 +17,8 @@ use nmgc_round::{Exchanged, MutatorSeat, Round};
 use nmgc_world_spec::{Kind, Operand, Reply};
 
 impl Mutator {
-    // Refuses a command by the load of the header of g, and returns the reply: Note [Where a command takes its place in the
-    // order] in `commands`. It calls `answer_in_order`, which ensures `Does`, and itself ensures `Acts`: nothing was noted.
+    // Refuses a command by the load of the header of g, and returns `reply`. It calls `answer_in_order`, but ensures more:
+    // `Acts`, so that nothing of any kind was noted. Note [Where a command takes its place in the order] is in `commands`.
     pub(crate) fn refuse(
         &self,
         round: &Round,
@@ -40,7 +40,8 @@ impl Mutator {
         self.answer_in_order(round, seat, command, reply)
     }
 
-    // Does the command `Cas`: writes a field of a variable or an array if the field has the expected value.
+    // Does the command `Cas`: writes a field of a variable or an array if it has the expected value. While marking it owes
+    // this value.
     pub(crate) fn cas(
         &mut self,
         round: &Round,
@@ -82,7 +83,7 @@ impl Mutator {
         }
     }
 
-    // Does the command `Force`: reads the result of a thunk into a register.
+    // Does the command `Force`: reads the result of a thunk, if it has one, into a register.
     pub(crate) fn force(
         &mut self,
         round: &Round,
@@ -113,7 +114,8 @@ impl Mutator {
         Reply::Given(self.value(round, seat, Operand::Register(dest)))
     }
 
-    // Does the command `Deref`: reads the value of a weak pointer into a register, and owes it.
+    // Does the command `Deref`: reads the value of a weak pointer, if it is alive, into a register. While marking it owes the
+    // value.
     pub(crate) fn deref(
         &mut self,
         round: &Round,
@@ -146,8 +148,8 @@ impl Mutator {
         Reply::Given(self.value(round, seat, Operand::Register(dest)))
     }
 
-    // Does the command `Finalise`: kills a weak pointer, and takes its finaliser. It owes the weak pointer, its value and its
-    // finaliser. It notes the weak pointer for the stop, which takes it off the list of the weak pointers that are alive.
+    // Does the command `Finalise`: kills a weak pointer, if it is alive, and takes its finaliser into a register. While
+    // marking it owes the weak pointer, its value and its finaliser. A weak pointer in a segment is noted for the stop.
     pub(crate) fn finalise(
         &mut self,
         round: &Round,
@@ -195,7 +197,7 @@ impl Mutator {
         }
     }
 
-    // Does the command `Update`: gives a thunk a result if it has none, and then owes the thunk's free variables.
+    // Does the command `Update`: gives a thunk a result if it has none. While marking it owes the thunk's free variables.
     pub(crate) fn update(
         &mut self,
         round: &Round,

@@ -52,7 +52,7 @@ impl MutatorRoots for Mutator {
         self.young_weaks.items()
     }
 
-    fn empty(&mut self) {
+    fn forget_round(&mut self) {
         self.nursery.top = self.nursery.base;
         self.recorded.clear();
         self.young_weaks.clear();

@@ -17,7 +17,7 @@ use nmgc_object::{Address, HEADER_WORDS, NAME_OFFSET, SHARED_PLACE, decode_name}
 use nmgc_round::{MutatorSeat, Round};
 use nmgc_world_spec::{Kind, Operand, Reply};
 
-// Returns the number of values on a stack of the mutator's own. Slots fill from the bottom up, so a binary search finds it.
+// Returns the number of values on a stack of the mutator's own, by a binary search: its slots fill from the bottom up.
 fn depth(round: &Round, seat: &mut MutatorSeat, at: Address, slots: u32) -> u32
     requires seat { IsAt round.now seat.old }
     requires own { IsOwnStack (seen seat.old) at.0 slots }
@@ -41,7 +41,7 @@ fn depth(round: &Round, seat: &mut MutatorSeat, at: Address, slots: u32) -> u32
 }
 
 impl Mutator {
-    // Returns the mutator's own stack to which an operand refers, and its number of slots, or the refusal if there is none.
+    // Returns the own stack (address and number of slots) to which an operand refers, or the refusal if it refers to none.
     fn own_stack(
         &self,
         round: &Round,
@@ -69,7 +69,7 @@ impl Mutator {
         }
     }
 
-    // Does the command `Push`: puts a value on top of a stack.
+    // Does the command `Push`: puts a value on top of a stack of the mutator's own, unless it is full.
     pub(crate) fn push_value(
         &mut self,
         round: &Round,
@@ -101,7 +101,8 @@ impl Mutator {
         Reply::Fine
     }
 
-    // Does the command `Pop`: takes the value on top of a stack, and owes it.
+    // Does the command `Pop`: takes the value on top of a stack of the mutator's own, if there is one. While marking it owes
+    // the value.
     pub(crate) fn pop_value(
         &mut self,
         round: &Round,
@@ -133,7 +134,7 @@ impl Mutator {
         Reply::Given(self.value(round, seat, Operand::Register(dest)))
     }
 
-    // Does the command `NextFin`: takes the first finaliser that waits for this mutator.
+    // Does the command `NextFin`: takes the first finaliser that waits for this mutator, if any, into a register.
     pub(crate) fn next_fin(
         &mut self,
         round: &Round,

@@ -1,6 +1,4 @@
-//! A list of names, which contracts see as that list.
-//!
-//! It can be read and put in order, but nothing can be added: a list is made as a `NameRoom`.
+//! A list of names, to be read and put in order. Contracts see it as a list. It can't grow: it is made as a `NameRoom`.
 ghost use Rattle.std.specs.{Prelude.◌≡◌, Prelude.length, List.Sorted.IsPermutation};
 ghost use Rattle.nmgc_world_spec.specs.Listing.{AreDistinct};
 ghost use Rattle.nmgc_name_lists.specs.{Order.in_order, Spans.names_in, Spans.AreSorted};
@@ -27,7 +25,7 @@ impl Model for NameList {
     ghost invariant = { λ l. l.count ≡ length (names_in l.spans.items) };
 }
 
-// Sorts spans by their first names, in place.
+// Sorts spans by the maker and the serial of their first names, in place.
 fn sort(spans: &mut Vec<Span>)
     ensures permutation { IsPermutation spans.old.items spans.new.items }
     ensures sorted { AreSorted spans.new.items }
@@ -43,15 +41,15 @@ impl NameList {
         self.count
     }
 
-    /// Returns the names as spans: the names of the first span, then the names of the next.
+    /// Returns the list's spans. The list has the names of the first span, then the names of the next, and so on.
     pub fn spans(&self) -> &[Span]
         ensures { names_in result.now ≡ self.now }
     {
         self.spans.as_slice()
     }
 
-    /// Sorts the names by maker, then by serial. There must be no duplicates: then no two spans overlap, and it is enough to
-    /// sort the spans. Takes no memory, and time for sorting the spans.
+    /// Sorts the names by maker, then by serial. Requires that no name is in the list twice. Then no two spans overlap, so it
+    /// is enough to sort the spans. Takes no memory, and time for sorting the spans.
     pub fn put_in_order(&mut self)
         requires { AreDistinct self.old }
         ensures { self.new ≡ in_order self.old }

@@ -1,11 +1,10 @@
 //! A list of names that takes its memory before it is filled.
 //!
 //! Its room is one span for each name, so it suffices even if no name follows another. Reserved memory isn't touched until a
-//! span is written to it: if names follow one another, few of its bytes are ever used. Contracts see its names, and the
-//! number of further names for which there is room.
-//!
-//! A few spans at the front of a large room would keep its memory from being used again as a whole. So a list of few spans
-//! gets a copy of them, and the whole room is given back. If there is no memory for the copy, the spans stay in the room.
+//! span is written: if names follow one another, few bytes are ever used. Contracts see the names, and the number of further
+//! names for which there is room. A few spans at the front of a large room would keep its memory from being used again. So a
+//! list of few spans gets a copy, and the whole room is given back. If there is no memory for the copy, the spans stay in the
+//! room.
 ghost use Rattle.std.specs.Prelude.{◌≡◌, ◌+◌, ◌<◌, ◌≤◌, [], ◌∷◌, ◌++◌, IfOk, vec_len, vec_capacity};
 ghost use Rattle.nmgc_name_lists.specs.Spans.{names_in};
 
@@ -37,8 +36,8 @@ impl Model for NameRoom {
     ghost invariant = { λ r. (r.count ≡ length (names_in r.spans.items)) × (vec_len r.spans ≤ r.count) };
 }
 
-// Appends a name to names kept as spans. If the name comes right after the last span, that span gets longer; otherwise the
-// name becomes a span of its own. There has to be room for one more span, so it takes no memory.
+// Appends a name to names kept as spans. If the name comes right after the last span's last name, and this span isn't full,
+// the span gets longer. Otherwise the name becomes a span of its own. Requires room for one more span. Takes no memory.
 #[inline]
 fn add_name(spans: &mut Vec<Span>, name: Name)
     requires { vec_len spans.old < vec_capacity spans.old }
@@ -60,8 +59,8 @@ fn add_name(spans: &mut Vec<Span>, name: Name)
 // The most spans that count as few. They take at most a page, so a stop's time to copy them doesn't grow with the heap.
 const FEW: usize = 512;
 
-// Gives back the spare room of the spans, and returns the same spans. If they are few, it returns a copy of them in memory of
-// its own, provided that there is memory for the copy.
+// Returns the same spans, and gives back their spare room. If there are at most `FEW`, they are copied into memory of their
+// own, provided that there is memory for the copy. Otherwise the memory is shrunk; if that fails, the spare room stays.
 fn trim_spans(spans: Vec<Span>) -> Vec<Span>
     ensures { result.items ≡ spans.items }
 {
@@ -98,14 +97,15 @@ impl NameRoom {
         self.count += 1;
     }
 
-    /// Returns the names as spans: the names of the first span, then the names of the next.
+    /// Returns the list's spans. The list has the names of the first span, then the names of the next, and so on.
     pub fn spans(&self) -> &[Span]
         ensures { names_in result.now ≡ self.now.names }
     {
         self.spans.as_slice()
     }
 
-    /// Returns the names as a list, and gives spare room back. Needs no memory; takes some, if any, to copy few spans.
+    /// Returns the names as a list. Can't fail. A list of few spans is copied, and spare room is given back, each only if
+    /// memory suffices.
     pub fn into_list(self) -> NameList
         ensures { result ≡ self.names }
     {

@@ -1,7 +1,5 @@
-//! Names of one maker, one serial after the other.
-//!
-//! A span is its maker, its number of names, and the serial of the first. The count has 16 bits, so that a span takes the
-//! eight bytes of a name; more names in a row are several spans.
+//! Names of one maker, one serial after the other: the maker, the number of names, and the serial of the first. The count has
+//! 16 bits, so that a span takes the eight bytes of a name. A longer sequence of names is several spans.
 //!
 //! Easy to get wrong: fields lie in memory in the order of their declaration, so the count is declared next to the maker.
 ghost use Rattle.std.specs.Prelude.{◌≡◌, ◌↔◌, ◌+◌, ◌<◌, ◌≤◌, ◌^◌, [], ◌∷◌, ◌++◌, length, slice_get, Some, IsTrue};
@@ -45,7 +43,7 @@ impl Span {
             && u64::from(self.first) + u64::from(self.count) == u64::from(name.serial)
     }
 
-    /// Returns the span with `name`, its next name, added at its end.
+    /// Returns the span that has `name` after this span's names. Requires what `is_followed_by` tests.
     #[inline]
     pub(crate) fn with_name(&self, name: Name) -> Span
         requires { IsNext self.now name }
@@ -66,7 +64,7 @@ impl Span {
         self.count
     }
 
-    /// Returns the name at a position in the span.
+    /// Returns the span's name at position `at`, counted from 0. Requires that the span has a name there.
     #[inline]
     pub fn name(&self, at: u16) -> Name
         requires { at < length (names_of self.now) }

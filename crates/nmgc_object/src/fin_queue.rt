@@ -3,9 +3,8 @@
 //! A dead weak pointer's finaliser waits here until the mutator takes it. The words are pointers into the heap, so promotion
 //! reads the queue as roots and writes forwarded pointers back.
 //!
-//! Deaths are queued at a stop that must not run out of memory. So room is made beforehand, and `add` only uses it. Taking
-//! the first word advances an index and moves no words. A taken word keeps its memory until the queue is empty, or until room
-//! is made when more words were taken than are left.
+//! Deaths are queued at a stop that must not run out of memory, so room is made before. Taking a word only advances an index.
+//! A taken word keeps its memory until the queue is empty, or until room is made when more words were taken than are left.
 //!
 //! Words join at a closing, when every nursery is empty, so promotion need not read a queue that has only such words. The
 //! queue keeps an upper bound of its pointers, so it can say in constant time that no pointer leads to a nursery.
@@ -54,8 +53,8 @@ impl FinQueue {
         }
     }
 
-    /// Makes room for at least `more` further words, and never loses room. After `NoMemory` the words stay. If more words
-    /// were taken than are left, the words left move into the taken words' memory. So moving costs no more than taking.
+    /// Makes room for at least `more` further words, or returns `NoMemory`. In either case the words stay and no room is
+    /// lost. If more words were taken off than are left, it first moves the words left to the front of their memory.
     pub fn reserve(&mut self, more: u32) -> Result<(), NoMemory>
         ensures words { self.new.words ≡ self.old.words }
         ensures room { OnOk result (more ≤ self.new.spare) }
@@ -68,7 +67,7 @@ impl FinQueue {
         Ok(())
     }
 
-    // Moves the words that are left to the front of their memory, over the words taken.
+    // Moves the words that are left to the front of their memory, over the words that were taken off.
     fn forget_taken(&mut self)
         ensures words { self.new.words ≡ self.old.words }
         ensures kept { self.old.spare ≤ self.new.spare }
@@ -79,7 +78,7 @@ impl FinQueue {
         self.first = 0;
     }
 
-    /// Adds a word at the end. Takes no memory.
+    /// Adds a word at the end. Requires that there is room for it (`reserve`). Takes no memory.
     pub fn add(&mut self, word: u64)
         requires { 0 < self.old.spare }
         ensures words { self.new.words ≡ self.old.words ++ word ∷ [] }
@@ -89,7 +88,7 @@ impl FinQueue {
         self.highest = bound_with(self.highest, word);
     }
 
-    /// Takes the first word off the queue and returns it, or `None` exactly if the queue is empty. Constant time.
+    /// Takes the first word off the queue and returns it. Returns `None` exactly if the queue is empty. Constant time.
     pub fn take_first(&mut self) -> Option<u64>
         ensures first { result ≡ slice_get self.old.words 0 }
         ensures rest { self.new.words ≡ drop 1 self.old.words }
@@ -111,7 +110,7 @@ impl FinQueue {
         &self.words[self.first..]
     }
 
-    /// Returns the words of the queue in order, as a list that uses the memory `place`. Takes no memory.
+    /// Returns the words of the queue in order, as a list in the memory `place`, which was allocated before. Takes no memory.
     pub fn into_list(self, place: ListMemory<u64>) -> List<u64>
         ensures { result ≡ self.words }
     {
@@ -124,10 +123,10 @@ impl FinQueue {
         let left = words.len() - first;
         words.copy_within(first.., 0);
         words.truncate(left);
-        List::in_place(words, place)
+        List::from_vec_in(words, place)
     }
 
-    /// Replaces the word at the position `place` of the queue with `word`, and changes no other word. Takes no memory.
+    /// Replaces the word at position `place`, which has to exist, with `word`. Changes no other word. Takes no memory.
     pub fn set(&mut self, place: usize, word: u64)
         requires { place < length self.old.words }
         ensures words { self.new.words ≡ slice_set self.old.words place word }
@@ -137,8 +136,8 @@ impl FinQueue {
         self.highest = bound_with(self.highest, word);
     }
 
-    /// Returns true only if each pointer among the words leads below the address `place`. It may return false even if all
-    /// pointers lead below it, after a larger pointer was taken off or replaced. Takes no memory, and constant time.
+    /// Returns true only if each pointer among the words leads to an address below `place`. May return false although each
+    /// does, since the bound that the queue keeps doesn't fall when a pointer is taken off. Constant time, no memory.
     #[tactic(auto, using(crate::proofs::Pointers::below_of))]
     pub fn is_below(&self, place: u32) -> bool
         ensures { IsTrue result → ArePointersBelow self.now.words place }

@@ -1,6 +1,4 @@
-//! Laws of the definitions of words and addresses, for every value.
-//!
-//! Each function here does nothing; its contract is the law.
+//! Laws of the definitions of words and addresses, for every value. Each function does nothing; its contract is the law.
 ghost use Rattle.std.specs.Prelude.{ℕ, ◌≡◌, ◌↔◌, ◌+◌, ◌*◌, ◌^◌, ◌<◌, ◌≤◌};
 ghost use Rattle.nmgc_world_spec.specs.declared.value.Name.{Name};
 ghost use Rattle.nmgc_object.specs.{Words.header_word, Words.name_word, Words.field_word, Words.IsHeader, Words.IsName, Words.IsField, Size.header_place, Size.name_place, Size.field_place, Size.object_size, Size.block_size, Size.IsClassOf, Places.IsLayout, Places.InSegment, Places.InNursery, Places.InHeap, Places.class_count, Places.left_over, declared.words.Header.Header, declared.words.Field.Field, declared.layout.Layout.Layout};
@@ -15,7 +13,7 @@ use crate::words::{
     VAR_FIELDS, WEAK_FIELDS, ZERO_WORD,
 };
 
-/// Proves the value of each constant of codes, sizes and addresses, so that contracts may cite the constants by name.
+/// Proves the value of each public constant of this crate (codes, sizes, addresses). Contracts use the constants by name.
 pub fn constants_are_these()
     ensures tags { TAGS ≡ 256 }
     ensures fields { (MAX_FIELDS ≡ 4094) × (MAX_PARTS ≡ 4094) }
@@ -28,14 +26,16 @@ pub fn constants_are_these()
     ensures places { (SHARED_PLACE ≡ 1) × (FIRST_PLACE ≡ 32) }
 {}
 
-/// Proves that different headers, names or fields have different words, so decoding inverts encoding.
+/// Proves that two valid headers with the same word are equal. The same holds for valid names and for valid fields. So a
+/// decoder that returns a valid value with the given word returns the value that was encoded.
 pub fn words_differ()
     ensures headers { (a b : Header) → IsHeader a → IsHeader b → header_word a ≡ header_word b → a ≡ b }
     ensures names { (a b : Name) → IsName a → IsName b → name_word a ≡ name_word b → a ≡ b }
     ensures fields { (a b : Field) → IsField a → IsField b → field_word a ≡ field_word b → a ≡ b }
 {}
 
-/// Proves that segments and nurseries share no word, and that each of their words is a word of the heap above g.
+/// Proves that, in a layout within the limits, no word is in two segments, in two nurseries, or in a segment and a nursery.
+/// Each word of a segment or nursery is a word of the heap above g.
 pub fn places_lie_apart()
     ensures segments { (layout : Layout) (a b at : ℕ) → IsLayout layout → InSegment layout a at → InSegment layout b at → a ≡ b }
     ensures nurseries { (layout : Layout) (a b at : ℕ) → IsLayout layout → InNursery layout a at → InNursery layout b at → a ≡ b }
@@ -44,7 +44,7 @@ pub fn places_lie_apart()
     ensures nursery_in_heap { (layout : Layout) (a at : ℕ) → IsLayout layout → InNursery layout a at → InHeap layout at }
 {}
 
-/// Proves that the header, the name and each field of an object are different words of the object.
+/// Proves that the header, the name and each field of an object are different words, all within the object.
 pub fn parts_lie_apart()
     ensures name { (header : Header) (at : ℕ) → (header_place at < name_place at) × (name_place at < at + object_size header) }
     ensures field { (header : Header) (at field : ℕ) → field < header.fields → (name_place at < field_place at field) ×
@@ -52,9 +52,10 @@ pub fn parts_lie_apart()
     ensures fields { (at a b : ℕ) → field_place at a ≡ field_place at b → a ≡ b }
 {}
 
-/// Proves that every object that fits into a segment has a class of the layout, and that exactly the blocks of these classes
-/// fit into a segment. An object has at least two words and at most the words of the greatest block. Twice its words are at
-/// least the words of its block and the words left over in a segment of blocks of its class.
+/// Proves, for a layout within the limits, that exactly the blocks of its classes fit into a segment. The class of an object
+/// that fits into a segment is one of these classes. An object with a valid header has 2 to `MAX_BLOCK_WORDS` words. Let an
+/// object of 2 or more words fit into a segment. Then twice its words are at least its block's words plus the words left over
+/// in a segment of such blocks.
 pub fn objects_have_classes()
     ensures fits { (layout : Layout) (words class : ℕ) → IsLayout layout → words ≤ layout.words → IsClassOf words class →
         (block_size class ≤ layout.words) × (class < class_count layout) }

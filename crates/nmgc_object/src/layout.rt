@@ -70,8 +70,9 @@ impl Layout {
         class_of(self.words) + 1
     }
 
-    /// Returns the number of free segments that suffices to promote every nursery. Full nurseries need segments with twice
-    /// their words, and each class of each mutator needs one segment more. Takes no memory.
+    /// Returns the reserve: the number of free segments that suffices to promote full nurseries (`reserve_suffices` in
+    /// `nmgc_alloc`). It is twice all nurseries' words, divided by a segment's words and rounded down, plus one for each
+    /// class of each mutator. Takes no memory.
     pub fn reserve(&self) -> u32
         requires { IsLayout self.now }
         ensures { result ≡ reserve_count self.now }

@@ -58,7 +58,7 @@ pub fn words_of(kind: Kind, parts: u32) -> u32
     HEADER_WORDS + fields
 }
 
-/// Returns the number of words of an object with this header. Takes no memory.
+/// Returns the number of words of an object with this valid header. Takes no memory.
 pub fn object_words(header: Header) -> u32
     requires { IsHeader header }
     ensures size { result ≡ object_size header }
@@ -81,9 +81,8 @@ pub fn block_words(class: u8) -> u32
     }
 }
 
-/// Returns the least class whose block holds `words` words. From the greatest dense class on, blocks have 16, 32, 64 words
-/// and so on. So for more than 16 words the answer is that class plus the number of binary digits of `(words - 1) / 16`.
-/// Takes no memory, and constant time.
+/// Returns the least class whose blocks hold `words` words. Above 16 words a block's words double from class to class. So the
+/// class is then the greatest dense class plus the number of binary digits of `(words - 1) / 16`. Constant time, no memory.
 pub fn class_of(words: u32) -> u8
     requires least { 2 ≤ words }
     requires most { words ≤ MAX_BLOCK_WORDS }

@@ -1,14 +1,13 @@
 //! Headers, names and fields as words.
 //!
-//! Each of the three has its own code, and a reader knows from the address which of them to expect. The first word of an
-//! object is its header, the second its name, the rest are fields. Header and name never change after the object is made, so
-//! they may be read without order among threads.
+//! Each of the three has its own code, and the address shows which to expect. An object has a header, a name, and then its
+//! fields. Header and name never change once the object is made, so no order among threads is needed to read them.
 //!
-//! A field's code separates the words that the collector follows from the words that it ignores. Word 0 is an unset field, or
-//! a dead weak pointer's value; other even words are pointers, odd words nil or numbers. Only `FieldWord` decodes them.
+//! A field's code separates words that the collector follows from words that it ignores. A word of 0 is an unset field, or a
+//! dead weak pointer's value. Other even words are pointers, odd words nil or numbers. Only `FieldWord` decodes them.
 //!
-//! Easy to get wrong: a word whose parts look sound one by one may still be no valid word. Only constructors have tags, and
-//! the number of fields depends on the kind, so decoding tests both together.
+//! Easy to get wrong: a header's word may be invalid although its kind, tag and number of fields are each in range. Only
+//! constructors have tags, and the number of fields depends on the kind, so decoding tests them together.
 ghost use Rattle.std.specs.Prelude.{◌≡◌, ◌≢◌, ◌↔◌, ◌+◌, ◌*◌, ◌%◌, ◌<◌, ◌≤◌, IfSome, IfNone, IsTrue};
 ghost use Rattle.nmgc_world_spec.specs.{declared.value.Name.Name, declared.node.Kind.Kind};
 ghost use Rattle.nmgc_object.specs.{Words.kind_number, Words.header_word, Words.name_word, Words.field_word, Words.IsHeader, Words.IsName, Words.IsField, declared.words.TheConstants.NUMBER_LIMIT, declared.words.TheConstants.NIL_WORD, declared.words.TheConstants.ZERO_WORD, declared.words.Header.Header, declared.words.Field.Field};
@@ -85,7 +84,7 @@ impl FieldWord {
         FieldWord(2 * u64::from(at))
     }
 
-    /// Returns the word of a number, which is below `NUMBER_LIMIT`. Takes no memory.
+    /// Returns the word of a number. Requires that the number is below `NUMBER_LIMIT`. Takes no memory.
     #[inline]
     pub fn of_number(number: u64) -> FieldWord
         requires { number < NUMBER_LIMIT }
@@ -94,8 +93,8 @@ impl FieldWord {
         FieldWord(2 * number + ZERO_WORD)
     }
 
-    /// Returns half the word: the address if the word is a pointer, and 0 if the field is unset. Returns `None` exactly if
-    /// the word is odd. Half a word without meaning may lie beyond the heap, and beyond 32 bits. Takes no memory.
+    /// Returns half the word if the word is even: the address of a pointer, or 0 for an unset field. Returns `None` exactly
+    /// if the word is odd. If the word has no meaning, its half may be beyond the heap, and beyond 32 bits. Takes no memory.
     #[inline]
     pub fn place(self) -> Option<u64>
         ensures some { IfSome result (λ at. self.0 ≡ 2 * at) }
@@ -200,8 +199,7 @@ pub fn decode_header(word: u64) -> Option<Header>
     }
 }
 
-/// Returns the valid header that has this word. It tests nothing: the caller knows that the word is a valid header. Promotion
-/// and marking call it for each object. Takes no memory.
+/// Returns the valid header that has this word. Requires that there is one, and tests nothing. Takes no memory.
 #[inline]
 pub fn header_of(word: u64) -> Header
     requires { (header : Header) × IsHeader header × (header_word header ≡ word) }
@@ -217,7 +215,7 @@ pub fn header_of(word: u64) -> Header
     }
 }
 
-/// Returns the number of fields in the word of a header, by one shift. The caller knows that it is valid. Takes no memory.
+/// Returns the number of fields of the valid header with this word, which must exist. Tests nothing. Takes no memory.
 #[inline]
 pub fn fields_of(word: u64) -> u32
     requires { (header : Header) × IsHeader header × (header_word header ≡ word) }
@@ -226,7 +224,7 @@ pub fn fields_of(word: u64) -> u32
     (word / FIELDS_UNIT) as u32
 }
 
-/// Returns the word of a name. The maker is at most `SHARED_MAKER`, whose only serial is 0. Takes no memory.
+/// Returns the word of a name. Requires a maker up to `SHARED_MAKER`, and serial 0 for `SHARED_MAKER`. Takes no memory.
 pub fn encode_name(name: Name) -> u64
     requires { IsName name }
     ensures { result ≡ name_word name }
@@ -234,7 +232,7 @@ pub fn encode_name(name: Name) -> u64
     SERIAL_UNIT * u64::from(name.serial) + u64::from(name.maker)
 }
 
-/// Returns the name that has this word. Returns `None` exactly if no valid name has it. Takes no memory.
+/// Returns the valid name that has this word. Returns `None` exactly if no valid name has it. Takes no memory.
 #[inline]
 pub fn decode_name(word: u64) -> Option<Name>
     ensures some { IfSome result (λ name. IsName name × (name_word name ≡ word)) }
@@ -254,7 +252,7 @@ pub fn decode_name(word: u64) -> Option<Name>
     })
 }
 
-/// Returns the valid name that has this word. It tests nothing: the caller knows that there is one. Takes no memory.
+/// Returns the valid name that has this word. Requires that there is one, and tests nothing. Takes no memory.
 #[inline]
 pub fn name_of(word: u64) -> Name
     requires { (name : Name) × IsName name × (name_word name ≡ word) }
@@ -266,7 +264,7 @@ pub fn name_of(word: u64) -> Name
     }
 }
 
-/// Returns the word of a field. A number is below `NUMBER_LIMIT`, and a pointer isn't 0. Takes no memory.
+/// Returns the word of a valid field: a number is below `NUMBER_LIMIT`, and a pointer's address isn't 0. Takes no memory.
 pub fn encode_value(field: Field) -> u64
     requires { IsField field }
     ensures { result ≡ field_word field }
@@ -279,7 +277,7 @@ pub fn encode_value(field: Field) -> u64
     }
 }
 
-/// Returns the field that has this word. Returns `None` exactly if no valid field has it. Takes no memory.
+/// Returns the valid field that has this word. Returns `None` exactly if no valid field has it. Takes no memory.
 pub fn decode_value(word: u64) -> Option<Field>
     ensures some { IfSome result (λ field. IsField field × (field_word field ≡ word)) }
     ensures none { IfNone result ((field : Field) → IsField field → field_word field ≢ word) }

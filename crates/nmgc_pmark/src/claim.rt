@@ -1,9 +1,8 @@
 //! The claim table: a word for each block, 0 or the number of the marker that claimed the block plus one.
 //!
-//! A marker claims a block by one compare-exchange. So only one marker gets a block, and others find it claimed. They needn't
-//! know by which marker: once all seats are joined, every block that was found claimed is in some marker's list (`close`).
+//! A marker claims a block by one compare-exchange. So only one marker gets a block, and other markers find it claimed.
 //!
-//! Easy to get wrong: a marker that was refused a block may not wait for its owner. It need not: the owner scans the block.
+//! Easy to get wrong: a marker that was refused a block may not wait for its scan. The marker that has the block scans it.
 ghost use Rattle.std.specs.Prelude.{◌≡◌, ◌<◌, Contains, IfOk, IsTrue};
 ghost use Rattle.nmgc_pmark.specs.{View.whole, View.tried, View.claimed_by, View.keeps_rest, View.gives_first, View.together, Rule.IsMarker, Rule.CanSplit, Rule.HasAll, Rule.IsShared, Seat.seen, Seat.bounds_of, Seat.IsAt};
 
@@ -15,7 +14,8 @@ use nmgc_lists::NoMemory;
 use std::alloc::Global;
 
 impl ClaimTable {
-    /// Makes a table without claims, and a seat with all markers' parts. Takes memory for its words, twice that while made.
+    /// Makes a table without claims, and a seat with the parts of all markers. Requires at least one block. Takes memory for
+    /// a word a block, and twice that while the table is made.
     pub fn new(alloc: Global, bounds: Bounds) -> Result<(ClaimTable, ClaimSeat), NoMemory>
         requires { 0 < bounds.blocks }
         ensures bounds { IfOk result (λ t. bounds_of t.0 ≡ bounds) }
@@ -27,7 +27,8 @@ impl ClaimTable {
         Ok((ClaimTable { table }, seat))
     }
 
-    /// Splits off a seat for the first marker, and returns it. The old seat keeps the other parts.
+    /// Splits a seat. Returns a seat with the first part of `seat`, whose number no other part may have (`CanSplit`). `seat`
+    /// keeps the other parts, and the blocks that it found claimed.
     pub fn split(&self, seat: &mut ClaimSeat) -> ClaimSeat
         requires seat { IsAt self.now seat.old }
         requires ready { CanSplit (seen seat.old) }
@@ -47,8 +48,9 @@ impl ClaimTable {
         self.table.shared.join_seat::<Both>(seat, other)
     }
 
-    /// Claims a block for the seat's marker by one compare-exchange, and returns whether the marker gets it. A block goes to
-    /// at most one marker: if the marker gets it, it was unclaimed, and otherwise claimed. Takes no memory and never waits.
+    /// Claims a block for `marker` by one compare-exchange, and returns whether the marker got it. If not, the block was
+    /// found claimed. The seat has to have this marker's part alone. No marker gets a block twice (`fresh`), and no two
+    /// markers get the same block, as `close` shows. Takes no memory and never waits.
     pub fn claim(&self, seat: &mut ClaimSeat, marker: u8, block: usize) -> bool
         requires seat { IsAt self.now seat.old }
         requires marker { IsMarker (seen seat.old) marker }
@@ -64,8 +66,8 @@ impl ClaimTable {
         found == 0
     }
 
-    /// Ends the table, with a seat that has the part of every marker. No block is in the lists of two markers, and each block
-    /// that was found claimed is in a list.
+    /// Ends the table. Requires that `seat` has the part of every marker. Ensures that no block is in the parts of two
+    /// markers, and that each block that was found claimed is in some marker's part.
     pub fn close(self, seat: ClaimSeat)
         requires seat { IsAt self seat }
         requires all { HasAll (bounds_of self).markers (seen seat) }

@@ -1,10 +1,12 @@
 //! Several markers mark a stopped heap.
 //!
 //! The markers start at the root words and then the slots of g: word i goes to marker i modulo the number of markers. They
-//! claim addresses. Once all are done, the names there are read, and each marker's names are put in order, side by side too.
+//! claim addresses. Once all are done, the names there are read, and put in order for each marker, again in threads if
+//! possible.
 //!
-//! Easy to get wrong: the number of objects that a marker claims depends on the schedule, and so does the choice. The claims
-//! of all together don't: they are exactly the objects reachable from the roots, each once.
+//! Easy to get wrong: the number of objects that a marker claims depends on the schedule, and so does the choice of these
+//! objects. The claims of all markers together don't: they are exactly the objects except g that strong fields reach from the
+//! roots and the slots of g, each once.
 ghost use Rattle.std.specs.Prelude.{ℕ, ◌≡◌, ◌≤◌, length, take, IfOk};
 ghost use Rattle.nmgc_object.specs.declared.layout.TheConstants.{FIRST_PLACE};
 ghost use Rattle.nmgc_pmark.specs.{declared.crew.TheConstants.MOST_MARKERS, Claims.Stopped, Claims.IsStopped, Claims.AreClaims, Claims.starts_of, Names.AreNamed, Names.IsNamed, Names.NameAll, Names.NameThem, Names.AreAllRead};
@@ -31,13 +33,13 @@ pub struct Claims {
     pub by: List<List<Name>>,
 }
 
-/// Marks all that is reachable from root words and the slots of g on a stopped heap, and returns the names that each marker
-/// claimed. From 1 to `MOST_MARKERS` markers work side by side. Words, segments and roots represent some stopped heap with
-/// empty nurseries. All markers read the words at once, and nothing writes them meanwhile. The lists together contain exactly
-/// the names reachable along strong fields from the roots and the slots of g, each once, whatever the number of markers and
-/// the schedule. Before each object that it scans, each marker passes `gate` as its number, and counts from 1. The names of
-/// each marker's objects are then read and put in order, in a thread too. Takes memory for a word a block (twice that while
-/// the table is made), for 8 bytes a block and marker, and for the names.
+/// Marks a stopped heap with 1 to `MOST_MARKERS` markers side by side, and returns the names of the objects that each
+/// claimed, in order. The lists have exactly the names except g reachable along strong fields from the root words and the
+/// slots of g. Each name is in one list, once, whatever the schedule. Requires that words, segments and roots represent some
+/// stopped heap with empty nurseries (`IsStopped`). Before each object that it scans, a marker passes `gate` with its number
+/// and the count of its passes, from 1. Then each list of names is read and put in order, again in a thread if possible.
+/// Takes memory for a word a block (twice that while the table is made), for 8 bytes a block and marker, for starting words
+/// and for names.
 pub fn mark_all<R: Threads + Sync, W: StillWords, G: Gate>(
     alloc: Global,
     rt: &R,
@@ -74,7 +76,8 @@ fn starts_of<W: StillWords>(alloc: Global, words: &W, roots: &[u64]) -> Result<V
     Ok(starts)
 }
 
-// Returns the names of each list's objects, in order, by a thread for each list if possible: this takes longer than marking.
+// Returns the names of the objects at the addresses of each list, each list of names in order. A list is read in a thread of
+// its own if possible, since reading names takes longer than marking.
 fn read_all_names<R: Threads + Sync, W: StillWords>(
     alloc: Global,
     rt: &R,
@@ -90,12 +93,12 @@ fn read_all_names<R: Threads + Sync, W: StillWords>(
         &|list: Room<Address>| -> Result<List<Name>, NoMemory>
             requires { IsNamed (W.words words.now) list.items }
             ensures { IfOk result (λ names. NameThem (W.words words.entry.now) list.items names) }
-        { named(alloc, words, list.items()) },
+        { read_names(alloc, words, list.items()) },
     )?;
     collect_lists(alloc, read)
 }
 
-// Returns the lists of names, or `NoMemory` if there was no memory for one of them.
+// Returns the lists of names, or `NoMemory` if there was no memory for one of them or for the list of all.
 fn collect_lists(alloc: Global, read: Vec<Result<List<Name>, NoMemory>>) -> Result<Claims, NoMemory>
     ensures { IfOk result (λ claims. AreAllRead read.items claims.by) }
 {
@@ -107,7 +110,7 @@ fn collect_lists(alloc: Global, read: Vec<Result<List<Name>, NoMemory>>) -> Resu
 }
 
 // Returns the names of the objects at the addresses, in order of names.
-fn named<W: StillWords>(
+fn read_names<W: StillWords>(
     alloc: Global,
     words: &W,
     places: &[Address],

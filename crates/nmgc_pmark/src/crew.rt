@@ -1,8 +1,8 @@
 //! All markers side by side.
 //!
-//! Before any marker starts, the first seat is split into a seat for each. Then each marks in a thread of its own. If a
-//! thread can't be started, the caller's thread marks in its place, one marker after the other. Once all markers are done
-//! their seats are joined. The last seat knows that every block that any marker found claimed is in some list.
+//! Before any marker starts, the first seat is split into a seat for each. Then each marks in a thread of its own, or in the
+//! caller's thread if no thread can be started. Once all are done their seats are joined. Then it is known that every block
+//! that any marker found claimed is in some list.
 ghost use Rattle.std.specs.Prelude.{◌≡◌, ◌-◌, ◌<◌, ◌≤◌, [], ◌∷◌, ◌^◌, length, map, vec_len, IfOk};
 ghost use Rattle.nmgc_pmark.specs.{View.whole, View.blank, Seat.seen, Seat.bounds_of, Seat.IsAt, Found.CanMark, Marker.CanBegin, Marker.HasMarked, declared.crew.TheConstants.MOST_MARKERS};
 ghost use Rattle.nmgc_pmark.specs.Crew.{AreNumbered, CanAllBegin, HaveAllMarked, AreSound, IsSharedAmong, AreMarked, found_of};
@@ -21,8 +21,9 @@ use std::thread::Threads;
 /// The greatest number of markers.
 pub const MOST_MARKERS: u8 = 8;
 
-/// Marks all that is reachable from starting words, and returns a list for each marker: each found object is in one list,
-/// once. A test calls it on two objects under a gate at which two markers meet.
+/// Claims all objects except g that are reachable along strong fields from the starting words. Returns a list for each
+/// marker, with the addresses of the objects that it claimed. Each object is in exactly one list, once. Requires that each
+/// object has a header within the words and a block number of its own (`CanMark`). A test makes two markers meet at `gate`.
 pub fn mark_places<R: Threads + Sync, W: StillWords, G: Gate>(
     alloc: Global,
     rt: &R,
@@ -66,6 +67,7 @@ fn make_marker(
     ensures begins { IfOk result (λ marker. CanBegin table.now bounds.markers marker) }
     ensures number { IfOk result (λ marker. marker.number ≡ number) }
 {
+    // Only the contract uses `table`.
     let _ = table;
     let mut found = Room::new(alloc);
     found.reserve(bounds.blocks as u32)?;
@@ -79,7 +81,7 @@ fn make_marker(
     })
 }
 
-// Makes a marker for each number, from a seat that has the part of every marker.
+// Makes a marker for each number below `bounds.markers`, in order. `seat` has the parts of all markers, and is split.
 fn make_crew(
     alloc: Global,
     table: &ClaimTable,
@@ -105,7 +107,7 @@ fn make_crew(
     Ok(crew)
 }
 
-// Lets all markers mark side by side, each in a thread of its own, or in the caller's if no thread can be started.
+// Lets all markers mark side by side, each in a thread of its own, or in the caller's thread if no thread can be started.
 fn mark_beside<R: Threads + Sync, W: StillWords, G: Gate>(
     rt: &R,
     table: &ClaimTable,
@@ -131,13 +133,15 @@ fn mark_beside<R: Threads + Sync, W: StillWords, G: Gate>(
                 (marker.now.number ≡ number) }
             ensures { HasMarked table.entry.now (W.words words.entry.now) starts.entry.now markers marker.exit.now × (marker.exit.now.number ≡ number) }
         {
+            // Only the contract uses `number`.
             let _ = number;
             marker.mark(table, words, starts, markers, gate);
         },
     );
 }
 
-// Joins the seats, ends the table, and returns the markers' lists.
+// Joins the seats, ends the table, and returns the markers' lists, in the markers' order. The lists share no block, and each
+// block that any marker found claimed is in one of the lists.
 fn end_crew(
     alloc: Global,
     table: ClaimTable,

@@ -3,15 +3,17 @@ ghost use Rattle.nmgc_pmark.specs.{OneMarker.MarksTheSame, Stops.StopsAreStopped
 
 use nmgc_mark::laws::all_reached_is_marked;
 
-/// Proves that several markers mark the same as the one marker of a cycle, by `Marker::snapshot` and `Marker::finish`. From a
-/// snapshot's roots, the block of each object except g is marked exactly if some marker lists its name.
+/// Proves that several markers mark the same as the one marker of a cycle. Suppose that the one marker began at a snapshot
+/// and emptied its queue by scans alone (`IsMarkedAlone`), and that several markers' lists are claims from the snapshot's
+/// roots (`AreClaims`). Then the snapshot block of an object, except g, is marked exactly if the object's name is in a list.
 pub fn one_marker_marks_the_same()
     ensures { MarksTheSame }
 {
     all_reached_is_marked();
 }
 
-/// Proves that the heap at a stop of a run is a stopped heap, whose roots are the values in registers and finaliser queues.
+/// Proves that the heap at a stop of a run (`HoldsAtStop`) is a stopped heap, as `mark_all` requires, if its world is closed
+/// and its segments are sound. Its roots are the values in registers and finaliser queues.
 pub fn a_stop_is_stopped()
     ensures { StopsAreStopped }
 {}

@@ -2,18 +2,18 @@
 //!
 //! Nothing writes to a heap at a stop, so several threads can mark its objects at once. Each marker claims objects by a
 //! compare-exchange on a table of this crate, a word for each block, and scans the objects that it claimed. No marker waits
-//! for another: an object that it is refused is scanned by the marker that has it. So all lists together are exactly the
-//! objects reachable from the roots along strong fields, each once, whatever the schedule.
+//! for another: if its claim on an object is refused, the marker that has the object scans it. So all lists together are
+//! exactly the objects except g that strong fields reach from the roots and the slots of g, each once, whatever the schedule.
 //!
-//! - `bounds`, `view`, `plays`: the size of the table, the knowledge of a seat, and the rule with its four kinds of step.
+//! - `bounds`, `view`, `plays`: the table's size, the knowledge of a seat, and the table's rule, with four kinds of step.
 //! - `table`, `claim`: the table, and claims on it.
 //! - `still`: words that nothing writes, for threads that read them.
 //! - `marker`, `crew`: one marker, and all of them side by side.
 //! - `claims`, `merge`, `order`: the call that marks a heap, and all names as one list, in order.
 //! - `laws`: the heap at a stop of a run can be marked like this, and the one marker of a cycle (`nmgc_mark`) marks the same.
 //!
-//! Easy to get wrong: a marker that found a block claimed knows only that some marker has it. That its object is scanned in
-//! the end is known once the seats of all markers are joined.
+//! Easy to get wrong: a marker that found a block claimed knows only that some marker has it. Only once the seats of all
+//! markers are joined is it known that the block's object was scanned.
 #![tactic(auto)]
 
 pub mod bounds;

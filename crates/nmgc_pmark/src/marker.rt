@@ -1,15 +1,13 @@
 //! One of several markers.
 //!
-//! A marker claims the targets of its own starting words. Then it scans the objects that it claimed, one after the other, and
-//! claims the targets of their strong fields, until nothing is left. An object that it doesn't get is scanned by the marker
-//! that has it. So no marker waits for another, and once all are done every reachable object was scanned.
+//! A marker claims the targets of its own starting words. Then it scans its claimed objects, one after the other, and claims
+//! the targets of their strong fields, until nothing is left. An object whose claim was refused is scanned by the marker that
+//! has it, which may be this one. Claimed objects are in one list, and objects still to scan in another, from which the
+//! marker takes the last. So it follows a chain of objects to its end before it turns to the next. It reads objects near
+//! those that it read last, since a promotion puts objects made in sequence side by side. Both lists have room for every
+//! block from the start.
 //!
-//! Claimed objects are in one list, and objects still to scan in another, from which the marker takes the last. So it follows
-//! a list to its end before it turns to the next. It reads objects near those that it read last, since a promotion puts
-//! objects made in sequence side by side. Both lists have room for every block from the start.
-//!
-//! Easy to get wrong: a marker may be left with most of the work. Nothing is handed over: a marker scans all that it claimed,
-//! and other markers help it only by claiming first.
+//! Easy to get wrong: a marker may be left with most of the work: it scans all that it claimed, and hands nothing over.
 ghost use Rattle.std.specs.Prelude.{ℕ, ◌≡◌, ◌+◌, ◌*◌, ◌<◌, ◌≤◌, [], length, slice_index, IfSome, IfNone};
 ghost use Rattle.nmgc_object.specs.declared.layout.TheConstants.{FIRST_PLACE};
 ghost use Rattle.nmgc_stop_spec.specs.Strong.{HasStrong, HasHeader, IsStrongRange, IsAmong};
@@ -40,8 +38,8 @@ fn block_index(at: u32) -> usize
     ((at - FIRST_PLACE) / MIN_BLOCK_WORDS) as usize
 }
 
-/// Returns the addresses at which an object's strong fields begin and end, the end left out. A thunk with a result no longer
-/// holds its free variables, and a weak pointer holds nothing.
+/// Returns the address of an object's first strong field, and the address after its last. The two are equal if there is no
+/// strong field, as in a weak pointer. A thunk's strong fields are its free variables, or only its result if it has one.
 fn strong_fields<W: StillWords>(words: &W, at: Address) -> (usize, usize)
     requires { HasHeader (W.words words.now) at.0 }
     ensures { IsStrongRange (W.words words.now) at.0 result.0 result.1 }
@@ -64,7 +62,7 @@ fn strong_fields<W: StillWords>(words: &W, at: Address) -> (usize, usize)
 }
 
 impl Marker {
-    // Claims the object at an address, unless it is claimed already.
+    // Claims the object at an address, and lists it as claimed and as still to scan, unless it is claimed already.
     fn claim_place(&mut self, table: &ClaimTable, at: u32)
         requires sound { IsSound table.now self.old }
         requires above { FIRST_PLACE ≤ at }
@@ -77,7 +75,7 @@ impl Marker {
         }
     }
 
-    // Claims the object to which a field word points, unless the word is no pointer or the object is g or claimed already.
+    // Claims the object to which a word points, unless the object is g or claimed already. Ignores a word that is no pointer.
     fn claim(&mut self, table: &ClaimTable, word: u64)
         requires sound { IsSound table.now self.old }
         requires within { LeadsWithin (bounds_of table.now).blocks word }
@@ -91,7 +89,7 @@ impl Marker {
         }
     }
 
-    // Claims the targets of this marker's starting words.
+    // Claims the targets of the marker's starting words: each `markers`-th word, from the word at position `number` on.
     fn claim_own(&mut self, table: &ClaimTable, starts: &[u64], markers: u8)
         requires sound { IsSound table.now self.old }
         requires some { 0 < markers }
@@ -105,7 +103,7 @@ impl Marker {
         }
     }
 
-    // Claims the targets of the words at addresses from `from` on and below `to`.
+    // Claims the unclaimed targets of the words at addresses from `from` on and below `to`.
     fn claim_range<W: StillWords>(&mut self, table: &ClaimTable, words: &W, from: usize, to: usize)
         requires sound { IsSound table.now self.old }
         requires ordered { from ≤ to }
@@ -118,7 +116,7 @@ impl Marker {
         }
     }
 
-    // Claims the targets of an object's strong fields.
+    // Claims the unclaimed targets of an object's strong fields.
     fn scan<W: StillWords>(&mut self, table: &ClaimTable, words: &W, at: Address)
         requires sound { IsSound table.now self.old }
         requires header { HasHeader (W.words words.now) at.0 }
@@ -138,9 +136,9 @@ impl Marker {
         self.waiting.take_last()
     }
 
-    /// Claims the targets of the marker's starting words, each `markers`-th from its own number on, and scans its claimed
-    /// objects until none is left. Before each object it passes `gate` as its number, and counts its passes from 1. Takes no
-    /// memory, and waits only for the gate.
+    /// Claims the targets of the marker's starting words (each `markers`-th, from the word at position `number` on), unless
+    /// they are claimed already. Then it scans its claimed objects until none is left to scan. Before each object it passes
+    /// `gate` with its number and the count of its passes, from 1. Takes no memory, and waits only for the gate.
     pub fn mark<W: StillWords, G: Gate>(
         &mut self,
         table: &ClaimTable,

@@ -9,18 +9,18 @@ use nmgc_lists::{List, NoMemory};
 use nmgc_world_spec::Name;
 use std::alloc::Global;
 
-/// Returns the names that all markers listed, in order, each once. For the claims of a stopped heap these are exactly the
-/// names reachable along strong fields from its roots and from the slots of g. Takes memory for the names, and for a second
-/// copy, if there is any, while they are put in order.
+/// Returns the names in all markers' lists as one list, in order. Suppose that the lists are claims for a world and roots
+/// (`AreClaims`). Then the result has each name except g reachable along strong fields from the roots and the slots of g,
+/// once. Takes memory for the names. Puts them in order faster if there is memory for a copy.
 pub fn names_of(alloc: Global, claims: &Claims) -> Result<List<Name>, NoMemory>
     ensures { IfOk result (λ names. (w : World) (roots : List Value) (markers : ℕ) → AreClaims w roots markers claims.now.by → Lists (IsStrong w roots) names) }
 {
     let names = join_lists(alloc, claims.by.items())?;
-    ordered(alloc, names)
+    sort_names(alloc, names)
 }
 
-// Returns the names in order.
-fn ordered(alloc: Global, names: Vec<Name>) -> Result<List<Name>, NoMemory>
+// Puts the names in order, and returns them as a list.
+fn sort_names(alloc: Global, names: Vec<Name>) -> Result<List<Name>, NoMemory>
     ensures { IfOk result (λ list. ArePutInOrder names.items list) }
 {
     let mut names = names;

@@ -71,12 +71,7 @@ module _ (o : Opening) (words : List ℕ) (views : List Seen) (h : Keeps o words
           let a = g.is_at in
           let z : at + offset ≡ x.at = omega arith in
           let l = lies_within o.layout (place_of x) (size_of x.node) (omega arith) (h.stands.apart x g.here).lies in
-          record {
-            header = header_of x.node;
-            valid = (h.stands.apart x g.here).valid;
-            word_is = cc (z, st.header);
-            room = omega arith;
-          }
+          record { header = header_of x.node; valid = (h.stands.apart x g.here).valid; word_is = cc (z, st.header); room = omega arith }
 
       name_known : offset ≡ 1 → FindsName (slice_index words (at + offset))
       name_known second =

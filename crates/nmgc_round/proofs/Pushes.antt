@@ -165,11 +165,7 @@ module _ (o : Opening) (words : List ℕ) (views : List Seen) (h : Keeps o words
       IsHand o h.born u p.number (record (hand_now o p) { stacks = with_slots (hand_now o p).stacks at g })
   stack_hand at u g same =
       let k = fits.hand in
-      record {
-        registers = rw same.registers k.registers;
-        queue = rw same.queue k.queue;
-        serial = k.serial ∙ sym same.serial;
-      }
+      record { registers = rw same.registers k.registers; queue = rw same.queue k.queue; serial = k.serial ∙ sym same.serial }
 
   -- and its own stacks
   stack_own : (at : ℕ) (stack : IsOwn o p at) (f : Found at stack) (made : Node) (u : World) (g : List ℕ →

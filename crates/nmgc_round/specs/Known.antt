@@ -1,6 +1,7 @@
--- Commands whose position is the load of the header of g, and their answers (`known_answer`, `TakesPlace`, `CanAnswer`): Note
--- [Where a command takes its place in the order] in `nmgc_mutator/src/commands.rt`. They read no word that changes. A refusal
--- depends on the header of the command's object, or on the maker in its name. At the end: the facts that loads show.
+-- Commands whose position is the load of the header of g, and their answers (`known_answer`, `TakesPlace`, `CanAnswer`). See
+-- Note [Where a command takes its place in the order] in `nmgc_mutator/src/commands.rt`. They read no changing word. A
+-- refusal depends on the operand's word, on the header of the command's object, or on the maker in its name. At the end: the
+-- facts that loads show.
 use Rattle.std.specs.Prelude.{◌≡◌, ◌≢◌, ◌⊎◌, ℕ, zero, suc, ◌+◌, ◌<◌, ◌*◌, ◌/◌, ◌%◌, ◌≤◌, ◌==◌, ◌&&◌, nat_le, List, [], ◌∷◌, Contains, Some, slice_get, if◌then◌else◌}
 use Rattle.nmgc_world_spec.specs.{declared.value.Name.Name, declared.node.Node.Node, declared.command.Operand.Operand, declared.command.Command.Command, declared.command.Reply.Reply, World.node_of}
 use Rattle.nmgc_world_spec.specs.declared.node.Kind.TheVariants as kind

@@ -57,8 +57,9 @@ pub record Opening : Type 0 where
   pub places : List Place
   pub hands : List Hand
 
--- one mutator's part of a view: its rows, the words that its steps found to be owed while marking, and the words that it
--- owes. Then the number of its nursery's words in objects, stored words in no object yet, and loaded words that never change
+-- one mutator's part of a view: its rows, the words that its steps found, and that a marking cycle would owe, and the words
+-- that it owes. Then the number of its nursery's words in objects, stored words in no object yet, and loaded words that never
+-- change
 pub record Part : Type 0 where
   pub number : ℕ
   pub rows : List DoneRow

@@ -33,7 +33,7 @@ impl<C: Asked> Play<(), View> for Exchanges<C> {
 }
 
 impl Round {
-    // Does the compare-exchange of a field, as the position of a `cas`, and returns the outcome. `C` is `command`.
+    // Does the compare-exchange of a field that is the position of a `cas`, and returns the outcome. `C` is `command`.
     fn exchange_field_for<C: Asked>(
         &self,
         seat: &mut MutatorSeat,
@@ -65,9 +65,9 @@ impl Round {
     }
 
     /// Stores a word into a field of a variable or an array if the field has the expected word, and returns the outcome. This
-    /// is the position of the `cas` in the order. After `Yes` the row answers yes. The expected word is the last word that
-    /// the view's steps found, and while marking it is owed from this step on. After `No` the field had another word, the row
-    /// answers no, and nothing else changes. By contract `found` isn't the expected word; that it was there is in the code.
+    /// is the position of the `cas` in the order. After `Yes` the row answers yes, the view's `Part.found` ends with the
+    /// expected word, and while marking the seat owes it from this step on. After `No` the field had another word, the row
+    /// answers no, and nothing else changes. By contract `found` isn't the expected word; in the code it is the field's word.
     pub fn exchange_field(
         &self,
         seat: &mut MutatorSeat,

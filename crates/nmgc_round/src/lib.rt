@@ -16,8 +16,8 @@
 //! represent a world in a round. `Ready.antt` and `Known.antt` have the conditions of steps, `Starting.antt` and
 //! `Finishing.antt` of a round's two ends. `nmgc_mutator` makes commands of these steps; `nmgc_mark` makes scans.
 //!
-//! Easy to get wrong: a row has its answer as a word and never changes. If this word is a pointer, its object is known by the
-//! fixed words, once the seat has loaded the name at that address.
+//! Easy to get wrong: a row has its answer as a word and never changes. If this word is a pointer, the seat's fixed words
+//! name the object, once the seat has loaded the name at that address.
 #![tactic(auto)]
 
 pub mod compare;

@@ -4,7 +4,7 @@
 //! word. From then on its free variables are no strong fields, so while marking that very step owes them all. The seat has
 //! loaded them before: they never change, and its view names them.
 //!
-//! Easy to get wrong: a result that isn't set is the word 0, which represents no value. It lies before the free variables.
+//! Easy to get wrong: the result lies before the free variables. An unset result is the word 0, which represents no value.
 ghost use Rattle.std.specs.Prelude.{◌≡◌, ◌≢◌, ◌+◌, ◌<◌, ◌==◌, []};
 ghost use Rattle.nmgc_object.specs.declared.size.TheConstants.{HEADER_WORDS};
 ghost use Rattle.nmgc_round.specs.{Ready.Mutates, Known.IsSafe, Compare.FoundOther, Compare.wrote, Results.CanForce, Results.CanUpdate, Results.forced, Results.updated, Seat.IsAt, Seat.Knows, Seat.seen, Seat.word_count};
@@ -70,7 +70,7 @@ impl Round {
         self.load_result_for::<Brand>(seat, at, command)
     }
 
-    // Stores a thunk's result if there is none, as the position of an `update`. `A` is `at`, and `C` is `command`.
+    // Stores a thunk's result if unset, as an `update`'s position, and returns the outcome. `A` is `at`, `C` is `command`.
     fn exchange_result_for<A: Located, C: Asked>(
         &self,
         seat: &mut MutatorSeat,
@@ -104,9 +104,9 @@ impl Round {
     }
 
     /// Stores the result of a thunk unless it has one, and returns the outcome. This is the position of the `update` in the
-    /// order. After `Yes` the row answers `updated`. The words of the free variables are last among the words that the view's
-    /// steps found, and while marking the seat owes them from this step on. After `No` the thunk has a result, the row
-    /// answers `already`, and nothing else changes. By contract `found` isn't 0; that it is the result is in the code.
+    /// order. After `Yes` the row answers `updated`, the view's `Part.found` ends with the words of the free variables, and
+    /// while marking the seat owes them from this step on. After `No` the thunk has a result, the row answers `already`, and
+    /// nothing else changes. The clause says only that `found` isn't 0. In the code it is the thunk's result.
     pub fn exchange_result(
         &self,
         seat: &mut MutatorSeat,

@@ -24,7 +24,8 @@ impl WitnessFor<Witness<Opened>, Opened> for Same {
 }
 
 impl Round {
-    // Begins a round by the only seat, which then has every part of it. `C` is `opening`.
+    // Opens a round by a step of its only seat, which then has every part. The step is a load of word 0, made only for its
+    // effect on the seat's view. `C` is `opening`.
     fn open<C: Begun>(table: &Shared, seat: &mut MutatorSeat, opening: &Witness<Opened>)
         requires seat { IsSole table.now.shared.table_id seat.old }
         requires asked { C.opening ≡ opening.now.value }
@@ -35,7 +36,7 @@ impl Round {
         table.shared.load::<Opens<C>>(seat, 0);
     }
 
-    // Opens a round on these words, and returns it with one seat that has every part.
+    // Makes a round of these words by `open`, and returns it with its one seat, which has every part.
     fn begin(words: Words, marking: bool, opening: &Witness<Opened>) -> (Round, MutatorSeat)
         requires opens { CanOpen opening.now.value words }
         requires marking { marking ≡ opening.now.value.marking }
@@ -59,10 +60,10 @@ impl Round {
     /// Begins a round on these words, with a seat for each of the layout's mutators and one for the collector. The seats know
     /// only the opening: they have no rows and no scans, and owe nothing.
     ///
-    /// The opening has the state of the marking machine as the round begins, and the addresses in use; the words represent
-    /// its world. `marking` says whether a cycle is marking; if not, the state has only its world. `room` is an empty list
-    /// with room for the mutators' seats, and `place` is the memory in which it will lie, so nothing can fail here. Takes no
-    /// allocator, no memory, and no time that grows with the words.
+    /// The opening is the state of the marking machine as the round begins, with the addresses in use. Requires that the
+    /// words represent its world, and that `marking` is as in the opening: it says whether a cycle is marking. Requires that
+    /// `room` is an empty list with room for the mutators' seats. `place` is the memory in which their list will lie, so
+    /// nothing can fail. Takes no allocator, no memory, and no time that grows with the words.
     pub fn start(
         words: Words,
         layout: Layout,
@@ -86,19 +87,19 @@ impl Round {
         round.split_all(first, usize::from(layout.mutators), &mut seats);
         Started {
             round,
-            mutators: List::in_place(seats, place),
+            mutators: List::from_vec_in(seats, place),
             collector,
         }
     }
 
-    /// Whether a cycle is marking in this round. The answer takes no step.
+    /// Whether a cycle is marking in this round. This takes no step.
     pub fn is_marking(&self) -> bool
         ensures { result ≡ (opening_of self.now).marking }
     {
         self.marking
     }
 
-    // Ends the round by a seat that has every part, and returns the words.
+    // Ends the round by a seat that has every part, and returns the words. Loads word 0 and drops it, as `open` does.
     fn end(self, last: MutatorSeat) -> Words
         requires { IsAt self last × HasAll (seen last) }
         ensures { IsFinished (opening_of self) result (seen last) × (length result ≡ word_count self) }
@@ -113,7 +114,7 @@ impl Round {
         Words { table, seat }
     }
 
-    /// Ends the round and returns its words. The seats are those of all mutators, and the collector's.
+    /// Ends the round and returns its words. The seats have to be all seats of the round: the mutators' and the collector's.
     /// All views agree with one list of events, and each event is possible at its position. A mutator's events are its rows
     /// in their order, the collector's are its scans, and marks and objects owed agree. The words represent the world after
     /// the events. Can't fail, and takes no allocator, no memory, and no time that grows with the words.

@@ -12,7 +12,7 @@ use crate::table::{CollectorSeat, MutatorSeat, Round};
 use nmgc_lists::List;
 
 impl Round {
-    /// Splits the first mutator's seat off a seat and returns it. The old seat keeps the other parts.
+    /// Moves the first mutator's part of a seat into a new seat, and returns that. The old seat keeps the other parts.
     pub fn split_mutator(&self, seat: &mut MutatorSeat) -> MutatorSeat
         requires seat { IsAt self.now seat.old }
         requires ready { CanSplit (seen seat.old) }
@@ -22,7 +22,7 @@ impl Round {
         self.table.shared.split_seat::<FirstMutator>(seat)
     }
 
-    /// Splits the collector's seat off a seat and returns it. The old seat keeps the mutators' parts.
+    /// Moves the collector's part of a seat into a new seat, and returns that. The old seat keeps the mutators' parts.
     pub fn split_collector(&self, seat: &mut MutatorSeat) -> CollectorSeat
         requires seat { IsAt self.now seat.old }
         requires ready { (seen seat.old).collects ≡ true }
@@ -32,7 +32,7 @@ impl Round {
         self.table.shared.split_seat::<CollectorAlone>(seat)
     }
 
-    /// Moves all parts of another seat into a seat. The other seat is gone.
+    /// Moves all parts of the seat `other` into `seat`. The other seat is gone.
     pub fn join(&self, seat: &mut MutatorSeat, other: MutatorSeat)
         requires seats { IsAt self.now seat.old × IsAt self.now other }
         requires within { 0 < word_count self.now }
@@ -41,7 +41,8 @@ impl Round {
         self.table.shared.join_seat::<Both>(seat, other)
     }
 
-    /// Splits a seat with the parts of all mutators into a seat for each, which it adds to `seats` in order. Takes no memory.
+    /// Splits a seat with all mutators' parts into one for each, and adds these to `seats`, an empty list with room, in
+    /// order.
     pub fn split_all(&self, seat: MutatorSeat, mutators: usize, seats: &mut Vec<MutatorSeat>)
         requires seat { IsAt self.now seat × (seen seat ≡ from (opening_of self.now) 0 (opening_of self.now).hands) }
         requires count { (mutators ≡ length (opening_of self.now).hands) × (0 < mutators) }

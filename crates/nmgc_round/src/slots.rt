@@ -98,8 +98,8 @@ impl Round {
 
     /// Stores a word into a slot of a stack that this mutator made, and returns the word before. This is the position of a
     /// `push`, which fills the first slot without a value, or of a `pop`, which empties the last slot with a value and
-    /// answers this value. A popped word is last among the words that the view's steps found, and while marking the seat owes
-    /// it from this step on. If the returned word is a pointer, its object lies within the heap's words.
+    /// answers this value. After a `pop` the view's `Part.found` ends with the word, and while marking the seat owes it from
+    /// this step on. If the returned word is a pointer, its object lies within the heap's words.
     pub fn swap_slot(
         &self,
         seat: &mut MutatorSeat,
@@ -132,7 +132,7 @@ impl Round {
     }
 
     /// Refuses a `push` onto a full stack of this mutator, or a `pop` off an empty one: loads the header of g, and returns
-    /// its word. This is the position of the command, and its row has the refusal as its answer. The seat's view names the
+    /// its word. This load is the position of the command, whose row has the refusal as its answer. The seat's view names the
     /// word from then on. `load_fixed` can't do it: the reply depends on slots, whose words the view doesn't name.
     pub fn refuse_slot(&self, seat: &mut MutatorSeat, command: &PackedCommand) -> u64
         requires seat { IsAt self.now seat.old }

@@ -2,15 +2,16 @@
 //!
 //! A step reads or writes one word of the table, in one order with all other steps of all threads. It may be the position of
 //! a command in that order: then the seat's view has one more row, with the answer of the reference heap there. A step shows
-//! its caller the word and its seat's view after it. It changes no other view, takes no memory, and never waits. A public
-//! step such as `swap_field` calls a private one, `swap_field_for`, whose type parameters `plays` explains.
+//! its caller the word and its seat's view after it. (A view *names* a word if it has the word with its address.) It changes
+//! no other view, takes no memory, and never waits. A public step such as `swap_field` calls a private one, `swap_field_for`,
+//! whose type parameters `plays` explains. The line `let _ = command;` there is for clauses alone.
 //!
 //! A step at an object has a condition: the object is g, or one of the mutator's registers has its address. For a load of a
 //! header or a name, the mutator's own finaliser queue may have it instead. A look ahead has no condition, since it shows
 //! nothing. A reply may also depend on a header, which never changes: the seat has loaded it before, and its view names it.
 //!
 //! A swap is the deletion barrier. While marking, the word taken out is owed from that step on. So a reference of the
-//! snapshot is in its field or owed: Note [Why the deletion barrier is enough] in `nmgc_mutator/src/barrier.rt`.
+//! snapshot is still in its field, or it is owed: Note [Why the deletion barrier is enough] in `nmgc_mutator/src/barrier.rt`.
 //!
 //! Easy to get wrong: the order of the stores of a new object, Note [The header is stored last].
 ghost use Rattle.std.specs.Prelude.{◌≡◌, ◌+◌, ◌<◌, MatchOption, IfNone, IfSome};
@@ -41,7 +42,7 @@ impl Round {
             .load::<Fixes<A>>(seat, at.0 as usize + offset as usize)
     }
 
-    // Loads a word that never changes, as the position of a command, and returns it. `A` is `at` and `offset`, `C` is `command`.
+    // Loads a word that never changes, as a command's position, and returns it. `A` is `at` and `offset`, `C` is `command`.
     fn load_fixed_for<A: Located, C: Asked>(
         &self,
         seat: &mut MutatorSeat,
@@ -66,11 +67,10 @@ impl Round {
 
     /// Loads and returns a word that never changes in a round: a header, a name, a constructor's field, a free variable, a
     /// weak pointer's key or finaliser. The seat's view names it from then on. Without a command, a loaded name is valid, and
-    /// so is a loaded header, whose object lies within the heap's words. With a command, the load is its position in the
-    /// order, and its row has the reply. At the header of g this command reads no changing word or is refused; at a
-    /// constructor's field it is a `get`. If the field is a pointer, its object lies within the heap's words. So does each
-    /// object in the mutator's finaliser queue. No command loads at an object to which the queue alone refers: `nextfin`
-    /// takes the word into a register as it is, and then an operand refers to the object.
+    /// so is a loaded header, whose object lies within the heap's words. With a command, the load is the command's position
+    /// in the order, and its row has the reply. Such a load is of the header of g, for a command that reads no changing word
+    /// or is refused, or of a constructor's field, for a `get`. If the field is a pointer, its object's header and name lie
+    /// within the heap's words. With a command, so do the objects in the mutator's finaliser queue.
     pub fn load_fixed(
         &self,
         seat: &mut MutatorSeat,
@@ -106,9 +106,10 @@ impl Round {
         self.table.shared.load::<Looks>(seat, place);
     }
 
-    /// Loads and returns the word of the marking machine's next scan. The queue's first entry is for the object at this
-    /// address; its next position has this offset. The view has one more scan. At position 0 the word is the header of the
-    /// object's node in the snapshot, whose words are in the heap. Later words are fields; a pointer's object is there.
+    /// Loads and returns the word of the marking machine's next scan. The view then has one more scan. Requires that the mark
+    /// queue's first entry is for the object at `at`, and that its next position is at `offset`. At position 0 the word is
+    /// the header of the object's node in the snapshot, whose words are in the heap. Later words are fields. If a field is a
+    /// pointer, header and name of its object are in the heap.
     pub fn scan_load(&self, seat: &mut CollectorSeat, at: Address, offset: u32) -> u64
         requires seat { IsAt self.now seat.old }
         requires ready { CanScan (seen seat.old) at.0 offset }
@@ -187,9 +188,8 @@ impl Round {
     }
 
     /// Stores a word into a field of a variable or an array, and returns the word before. This is the position of the `set`
-    /// in the order. The view has the old word last among the words that its steps found. These have the references that the
-    /// marking machine lists as owed, whether a cycle marks or not. While marking, the seat owes the old word from this step
-    /// on. If the old word is a pointer, its object lies within the heap's words.
+    /// in the order. The view's `Part.found` ends with the old word, whether a cycle marks or not. While marking, the seat
+    /// owes it from this step on. If the old word is a pointer, its object lies within the heap's words.
     pub fn swap_field(
         &self,
         seat: &mut MutatorSeat,
@@ -233,10 +233,10 @@ impl Round {
             .store::<Stores>(seat, at.0 as usize + offset as usize, word)
     }
 
-    /// Stores a word in the mutator's nursery, at an address that is in no object and wasn't stored to yet. The seat's view
-    /// names the word until an object is allocated there. A nursery is filled again in every round, often with the same
-    /// words, and a store costs several loads. So the word there is loaded first. If it differs, `word` is stored, and that
-    /// load adds nothing to the view. So the view's names of unborn words stay, and an allocation has one for each field.
+    /// Stores a word in the unused rest of the mutator's nursery, at address `at.0 + offset`. The mutator stored nothing
+    /// there since its last allocation. Then the seat's view names the word, until the next object is allocated. A nursery is
+    /// filled again in every round, often with the same words, and a store costs several loads. So the word there is loaded
+    /// first, and `word` is stored only if it differs. The view is the same in both cases.
     pub fn store_unborn(&self, seat: &mut MutatorSeat, at: Address, offset: u32, word: u64)
         requires seat { IsAt self.now seat.old }
         requires ready { Mutates (λ o p. CanStore o p (at.0 + offset)) (seen seat.old) }
@@ -248,7 +248,7 @@ impl Round {
         }
     }
 
-    // Loads a new object's first word, and returns whether it is the header. If so, this is the allocation. `H` is `header`.
+    // Loads a new object's first word, and returns whether it is `header` (`H`). If so, it allocates for `command` (`C`).
     fn look_at_header<H: Hoped, C: Asked>(
         &self,
         seat: &mut MutatorSeat,
@@ -301,10 +301,10 @@ impl Round {
     //
     // Before this step neither a register nor a field that a command may follow has the address. So no other thread can find
     // a half-made object. The steps of all threads are in one order, so no fence is needed before the address is published.
-    /// Stores the header of a new object, at the first unused word of the mutator's nursery. Its name and fields were stored
-    /// there before. This is the position of the command that makes the object, and its row has the object's address as its
-    /// answer. From then on the view names header and name, and no unborn word. As in `store_unborn`, that word is loaded
-    /// first. If it is already this header, left by an unreferenced object of an earlier round, the load is the allocation.
+    /// Stores the header of a new object, at the first unused word of the mutator's nursery. Requires that its name and
+    /// fields were stored behind it. This is the position of the command that makes the object, and its row has the object's
+    /// address as its answer. From then on the view names header and name, and no unborn word. As in `store_unborn`, the old
+    /// word is loaded first. If it is this header already, from an earlier round, the load is the allocation.
     pub fn give_birth(
         &self,
         seat: &mut MutatorSeat,

@@ -1,6 +1,6 @@
 //! The value of a weak pointer: the steps that are the positions of `deref` and `finalise` in the order.
 //!
-//! The value of a weak pointer is no strong field, so the marker may not reach it. A load puts the value into a register. So
+//! The value of a weak pointer is no strong field, so the marker needn't reach it. A load puts the value into a register. So
 //! while marking, that very load owes it. A swap kills the weak pointer. So while marking, that very swap owes the weak
 //! pointer, its value and its finaliser. The seat has loaded the finaliser before.
 //!
@@ -59,8 +59,8 @@ impl Round {
     }
 
     /// Loads the value of a weak pointer and returns its word, or 0 if the weak pointer is dead. This is the position of the
-    /// `deref` in the order: its row answers the word or `dead`. A value is last among the words that the view's steps found,
-    /// and while marking it is owed from this step on. If the value is a pointer, its object lies within the heap's words.
+    /// `deref` in the order: its row answers the word or `dead`. With a value, the view's `Part.found` ends with it, and
+    /// while marking the seat owes it from this step on. If the value is a pointer, its object lies within the heap's words.
     pub fn load_weak(&self, seat: &mut MutatorSeat, at: Address, command: &PackedCommand) -> u64
         requires seat { IsAt self.now seat.old }
         requires ready { Mutates (λ o p. CanDeref o p at.0 command.now) (seen seat.old) }
@@ -71,7 +71,7 @@ impl Round {
         self.load_weak_for::<Brand>(seat, at, command)
     }
 
-    // Takes a weak pointer's value out, as the position of a `finalise`, and returns its word or 0. `A` is `at`, `C` `command`.
+    // Swaps a weak pointer's value for 0, as a `finalise`'s position, and returns its word. `A` is `at`, `C` is `command`.
     fn swap_weak_for<A: Located, C: Asked>(
         &self,
         seat: &mut MutatorSeat,
@@ -93,9 +93,9 @@ impl Round {
     }
 
     /// Kills a weak pointer and returns the word of its value, or 0 if it was dead before. This is the position of the
-    /// `finalise` in the order: its row has the finaliser or `dead` as its answer. If the weak pointer was alive, it, its
-    /// value and its finaliser are last among the words that the view's steps found. While marking, the seat owes all three
-    /// from this step on. If the finaliser is a pointer, its object lies within the heap's words.
+    /// `finalise` in the order: its row has the finaliser or `dead` as its answer. If the weak pointer was alive, the view's
+    /// `Part.found` ends with it, its value and its finaliser. While marking, the seat owes all three from this step on. If
+    /// the finaliser is a pointer, its object lies within the heap's words.
     pub fn swap_weak(&self, seat: &mut MutatorSeat, at: Address, command: &PackedCommand) -> u64
         requires seat { IsAt self.now seat.old }
         requires ready { Mutates (λ o p. CanFinalise o p at.0 command.now) (seen seat.old) }

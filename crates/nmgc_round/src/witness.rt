@@ -24,7 +24,7 @@ impl<T> Model for Witness<T> {
 }
 
 impl<T> Witness<T> {
-    /// Returns the name of a value that `wanted` allows, chosen in the proof. There has to be one. Does nothing at run time.
+    /// Returns the name of a value, chosen in the proof, that `wanted` allows. There has to be one. Does nothing at run time.
     pub fn of<I, Q: WitnessFor<I, T>>(about: &I) -> Witness<T>
         requires { (x : T) × Q.wanted about.now x }
         ensures { Q.wanted about.now result.value }
@@ -36,6 +36,7 @@ impl<T> Witness<T> {
     }
 }
 
+// Drops nothing: a witness has no bytes.
 impl<T> Drop for Witness<T> {
     fn drop(self) {
         let Self { marker: _ } = self;

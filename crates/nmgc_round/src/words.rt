@@ -45,7 +45,7 @@ impl<'a> WitnessFor<&'a [u64], Stored> for Copied {
 }
 
 impl Words {
-    /// Makes a table with a copy of these words, at least one.
+    /// Makes a table with a copy of these words. There has to be at least one. Takes memory for the table.
     pub fn new(alloc: Global, words: &[u64]) -> Result<Words, NoMemory>
         requires { 0 < length words.now }
         ensures { IfOk result (λ w. w ≡ words.now) }

@@ -70,8 +70,7 @@ AddsOneTurn = (run : Run) (turn : Turn) (rounds : List RoundRows) (stops : List 
 abbrev pub LastIsOfTurn : Type 0
 LastIsOfTurn = (run : Run) (turn : Turn) → last_state (with_turn run turn) ≡ turn.stop.state
 
--- the law that each lawful report of a script within the limits, with few enough commands, is a report of the script's run.
--- It is a report of the run for which it is lawful
+-- the law that a lawful report is of the run for which it is lawful, for a script within the limits with few enough commands
 abbrev pub LawfulAreOfRuns : Type 0
 LawfulAreOfRuns = (script : Script) (report : Report) → FitsScript script → HasFewCommands script → (lawful : IsLawful script report) →
     (run : IsRunOf script report) × (run.lawful ≡ lawful)

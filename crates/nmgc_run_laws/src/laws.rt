@@ -1,20 +1,19 @@
-//! The laws of runs.
-//!
-//! Each function's contract is a law that tests the definitions of `nmgc_run_spec`. A body only calls the laws that it needs.
+//! Laws that test the definitions of `nmgc_run_spec`, as contracts of functions. A body only calls the laws that it needs.
 ghost use Rattle.nmgc_run_laws.specs.Statements.{ClassesAreCounted, RunGoesOn, AddsOneTurn, LastIsOfTurn, LeftIsDetermined, FreeIsReal, VersionIsNothing, UpgradeIsNothing, EachCycleHasItsRow, ClosingsAreSoon, LawfulAreOfRuns};
 ghost use Rattle.nmgc_run_laws.specs.{Places.BlocksAtStop, Places.BlocksAfterRound, Places.BlocksArePlaces, Sound.StatesAreSound, Sound.RoundsAreSound, Sound.TrackedHaveBlocks, Course.RunsAreInCourse, Course.RoundsStayInCourse, Course.PromotionsStayInCourse, Course.CyclesBeginInCourse, Limits.ScriptsHaveGoodPlans, Limits.StatesAreWithin, Limits.RoundsAreWithin};
 
-use nmgc_alloc::laws::counts;
+use nmgc_alloc::laws::counts_are_equal;
 use nmgc_object::laws::words_differ;
 
-/// Proves that a layout has the classes of dense blocks, and one for each doubling from `DENSE_WORDS` to a segment's words.
+/// Proves that a layout has `DENSE_CLASS` + 1 dense classes, and one further class for each doubling from `DENSE_WORDS` to a
+/// segment's words.
 pub fn classes_are_counted()
     ensures { ClassesAreCounted }
 {}
 
-/// Proves that a run stays a run when a further round and its stop are added at the end. Its report then has the replies and
-/// rows of this round and stop at the end, and its last state is the state after this stop.
-pub fn run_goes_on()
+/// Proves that a run with a further round and its stop is a run, if both may follow the run's last state (`IsTurn`). The
+/// report gets the round's replies and the stop's rows at its end. The last state is then the state after the stop.
+pub fn a_run_takes_a_further_round()
     ensures run { RunGoesOn }
     ensures agrees { AddsOneTurn }
     ensures last { LastIsOfTurn }
@@ -25,33 +24,34 @@ pub fn left_is_determined()
     ensures { LeftIsDetermined }
 {}
 
-/// Proves that the last stop's row counts the free segments of the report's heap.
+/// Proves that in a lawful report the last stop's row has the number of free segments of the report's heap.
 pub fn free_segments_are_counted()
     ensures { FreeIsReal }
 {
-    counts();
+    counts_are_equal();
 }
 
-/// Proves that a script's version doesn't matter: a report is lawful for a script exactly if it is lawful for its upgrade.
+/// Proves that a script has the same lawful reports in any other version, and the same lawful reports as its upgrade.
 pub fn a_version_changes_nothing()
     ensures version { VersionIsNothing }
     ensures upgrade { UpgradeIsNothing }
 {}
 
-/// Proves that the report of a run that has ended has a row for each cycle that was begun.
+/// Proves that in the report of a run that has ended, the number of rows of cycles is the number of cycles begun.
 pub fn each_cycle_has_its_row()
     ensures { EachCycleHasItsRow }
 {}
 
-/// Proves that each cycle was closed soon after its snapshot, in a lawful report of a script within the limits. If the cycle
-/// kept n objects, and a round scans at most `quota` objects, it was closed at most (n - 1) / quota + 1 rounds later, with
-/// the quotient rounded down. This is so even if a full cycle closed it.
+/// Proves that in a lawful report of a script within the limits each cycle was closed soon after its snapshot, even if a full
+/// cycle closed it. A cycle that kept n objects was closed at most (n - 1) / quota + 1 rounds after its snapshot. The
+/// quotient is rounded down, and it is 0 if n is 0.
 pub fn closings_are_soon()
     ensures { ClosingsAreSoon }
 {}
 
-/// Proves that at a stop and after a round, the places in segments are exactly the blocks in use, and each object fits its
-/// block. If a promotion leaves places with this property, and none in a nursery, they are the places of a heap at a stop.
+/// Proves that in a heap at a stop or after a round, the places in segments are exactly the blocks in use, and each object
+/// fits its block. Conversely (`back`), let words and segments represent a world without places in nurseries, and the places
+/// in segments be the blocks in use (`AreBlocks`). Then exactly g and the blocks have places, and objects fit their blocks.
 pub fn places_are_blocks()
     ensures at_stop { BlocksAtStop }
     ensures after_round { BlocksAfterRound }
@@ -60,15 +60,18 @@ pub fn places_are_blocks()
     words_differ();
 }
 
-/// Proves that states of a run, and rounds from sound states, are sound. So at stops all tracked names except g have blocks.
+/// Proves that the states of a run of a runnable plan are sound (`IsSoundState`), and rounds from sound states are sound
+/// (`IsSoundRound`). At each stop of such a run every tracked name except g has a block.
 pub fn tracked_names_have_blocks()
     ensures states { StatesAreSound }
     ensures rounds { RoundsAreSound }
     ensures blocks { TrackedHaveBlocks }
 {}
 
-/// Proves that the cycle in progress is the last one begun, at this stop or before. While it marks, exactly the segments
-/// filled when it began wait. Each waiting segment has the names that it had then. Without a cycle, no segment waits.
+/// Proves that the state's cycle is in course (`IsInCourse`) at each stop of a run, and that rounds and promotions keep it in
+/// course. A beginning cycle is in course if no segment waited to be swept before. A cycle in course is the last one begun.
+/// Each waiting segment was filled as the cycle began, and has the names that it had then. While the cycle marks, all
+/// segments filled as it began wait. Without a cycle, no segment waits.
 pub fn cycles_are_in_course()
     ensures runs { RunsAreInCourse }
     ensures rounds { RoundsStayInCourse }
@@ -76,15 +79,19 @@ pub fn cycles_are_in_course()
     ensures begins { CyclesBeginInCourse }
 {}
 
-/// Proves that a script within the limits has a layout, and that its worlds and the rest of its programs stay within them.
-pub fn limits_stay()
+/// Proves that the plan of a script within the limits has a layout and commands within the limits. The plan is runnable if
+/// its programs are short enough for serials. If a runnable plan has commands within the limits, each state of its runs is
+/// within the limits. A round from a sound state within the limits has commands and a new state within the limits.
+pub fn runs_stay_within_limits()
     ensures scripts { ScriptsHaveGoodPlans }
     ensures states { StatesAreWithin }
     ensures rounds { RoundsAreWithin }
 {}
 
-/// Proves that a lawful report of a script within the limits, with few enough commands, is a report of the run for which it
-/// is lawful. It ends as heap full exactly if that run's last stop leaves the heap full, and then the last stop is crowded.
+/// Proves that each lawful report of a script is a report of the script's run (`IsRunOf`), if the script is within the limits
+/// and has few enough commands (`HasFewCommands`). The report ends as heap full exactly if the run's last stop leaves the
+/// heap full (`LeavesHeapFull`). In that case the last cycle kept more objects than there are segments above the reserve, and
+/// the last stop is crowded (`IsCrowded`).
 pub fn lawful_reports_are_of_runs()
     ensures { LawfulAreOfRuns }
 {}

@@ -5,7 +5,7 @@ ghost use Rattle.nmgc_image.specs.Spelling.{IsSpelledWithin};
 use nmgc_image::{Image, image_text, laws, read_image};
 use nmgc_lists::{List, NoMemory};
 use nmgc_retain::{
-    Hop, Level, Levels, Path, Retained, Root, certified_answers_are_shortest, retain, verify,
+    Hop, Level, Levels, Path, Retained, Root, certified_answers_are_right, retain, verify,
 };
 use nmgc_world_spec::{Name, Node, Value};
 use std::alloc::Global;
@@ -233,7 +233,7 @@ fn wrong_answers_are_not_certified(rt: HostRuntime) -> Result<(), Fail> {
 #[test]
 fn laws_ask_nothing(rt: HostRuntime) {
     let _ = &rt;
-    laws::shown_is_image();
-    laws::a_text_has_one_image();
-    certified_answers_are_shortest();
+    laws::images_of_worlds_are_well_formed();
+    laws::a_text_spells_at_most_one_image();
+    certified_answers_are_right();
 }

@@ -109,11 +109,7 @@ command_takes ver usable size (name ∷ words) c e =
     let spelled : Spell ver (verb_name v.0) words c = subst (Spell ver (verb_name v.0) words) z.0 (operands_spell ver usable v.0 words o.0 o.1) in (
       rw (verb_takes name v.0 v.1) spelled.0,
       (
-        record {
-          registers = registers_wider ver.registers usable.registers c spelled.1;
-          numbers = spelled.2;
-          size = z.1;
-        },
+        record { registers = registers_wider ver.registers usable.registers c spelled.1; numbers = spelled.2; size = z.1 },
         spelled.1,
       ),
     )

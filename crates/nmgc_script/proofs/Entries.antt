@@ -30,7 +30,7 @@ regroup_section threads program (Ok p) = ap Ok (rw (append-nil program, append_a
 regroup_section threads program (Err e) = refl
 
 regroup_order : (c : Command) (threads : List (List Command)) (program : List Command) (read : Result (List Command × List (List Command)) (ℕ ×
-    Cause)) → with_before threads program (read >>= λ others. Ok (with_entry (entry.Order c) others)) ≡ with_before threads (program ++ c ∷ []) read
+    Cause)) → with_before threads program (read >>= λ others. Ok (with_entry (entry.Command c) others)) ≡ with_before threads (program ++ c ∷ []) read
 regroup_order c threads program (Ok p) = ap Ok (rw append_assoc refl)
 regroup_order c threads program (Err e) = refl
 
@@ -42,7 +42,7 @@ module _ (v : Version) (h : Config) (n : ℕ) (threads : List (List Command)) (p
   unfolding rest_at
   begins e = sym (regroup_section threads program (rest_at v h (n + 1) lines)) ∙ (rw (split, e) at so_far)
 
-  pub goes_on : (c : Command) → at_line line.0 (entry_at v h n (tokens_of line.1)) ≡ Ok (entry.Order c) →
+  pub goes_on : (c : Command) → at_line line.0 (entry_at v h n (tokens_of line.1)) ≡ Ok (entry.Command c) →
       with_before threads (program ++ c ∷ []) (rest_at v h n lines) ≡ total
   unfolding rest_at
   goes_on c e = sym (regroup_order c threads program (rest_at v h n lines)) ∙ (rw (split, e) at so_far)

@@ -61,11 +61,7 @@ read_operands : (ver : Version) (usable : IsUsable ver) (name : List ℕ) (words
 read_operands ver usable name words v c is registers numbers same =
     let whole : command_at ver (words_made c) (name ∷ words) ≡ Ok c = ap (command_at ver (words_made c)) same ∙
     command_again ver usable (words_made c) c (
-      record {
-        registers = registers_wider ver.registers usable.registers c registers;
-        numbers = numbers;
-        size = omega arith;
-      },
+      record { registers = registers_wider ver.registers usable.registers c registers; numbers = numbers; size = omega arith },
       registers,
     ) in
     let b = bind_ok (operands_at ver v words) (λ k. sized (words_made c) k) c (sym (read_as ver usable (words_made c) name words v is) ∙ whole) in
@@ -324,9 +320,9 @@ module _ (ver : Version) (usable : IsUsable ver) (h : Config) (n : ℕ) where
   entry_fault : (words : List (List ℕ)) (e : Cause) → n ≢ 0 → entry_at ver h n words ≡ Err e → IsFirstFault ver h n words e
   unfolding entry_at
   entry_fault words e some bad =
-      elim (chosen (is_section words) (section_at ver h n words) (command_at ver h.words words >>= λ c. Ok (entry.Order c)) (Err e) bad) [
+      elim (chosen (is_section words) (section_at ver h n words) (command_at ver h.words words >>= λ c. Ok (entry.Command c)) (Err e) bad) [
         | inl p ↦ section_fault words e (begins_of words p.0) p.1
-        | inr p ↦ command_known words e (apart_of words some p.0) (err_map (command_at ver h.words words) (λ c. entry.Order c) e p.1)
+        | inr p ↦ command_known words e (apart_of words some p.0) (err_map (command_at ver h.words words) (λ c. entry.Command c) e p.1)
       ]
 
   begun_is : (words : List (List ℕ)) (b : Bool) → is_section words ≡ b → begun_with n words ≡ cond b (n + 1) n
@@ -337,15 +333,15 @@ module _ (ver : Version) (usable : IsUsable ver) (h : Config) (n : ℕ) where
       (begun_with n words ≡ begun_after x n)
   unfolding entry_at
   entry_good words x some good =
-      elim (chosen (is_section words) (section_at ver h n words) (command_at ver h.words words >>= λ c. Ok (entry.Order c)) (Ok x) good) [
+      elim (chosen (is_section words) (section_at ver h n words) (command_at ver h.words words >>= λ c. Ok (entry.Command c)) (Ok x) good) [
         | inl p ↦
             let t = section_takes ver usable h n words x p.1 in
             (section_faultless words (begins_of words p.0) t.0, begun_is words true p.0 ∙ ap (λ (y : Entry). begun_after y n) (sym t.1))
         | inr p ↦
-            let b = bind_ok (command_at ver h.words words) (λ c. Ok (entry.Order c)) x p.1 in (
+            let b = bind_ok (command_at ver h.words words) (λ c. Ok (entry.Command c)) x p.1 in (
               command_faultless words b.0 (apart_of words some p.0) b.1,
               begun_is words false p.0 ∙
-                  ap (λ (y : Entry). begun_after y n) (ok_is {E = Cause} (entry.Order b.0) x b.2),
+                  ap (λ (y : Entry). begun_after y n) (ok_is {E = Cause} (entry.Command b.0) x b.2),
             )
       ]
 
@@ -363,7 +359,7 @@ err_of {A} {B} (Err d) f number c never e = ap Err (err_is {A = B} d (number, c)
 
 pub some_after : (x : Entry) (n : ℕ) → n ≢ 0 → begun_after x n ≢ 0
 some_after entry.Section n some = λ e. omega arith
-some_after (entry.Order c) n some = some
+some_after (entry.Command c) n some = some
 
 rest_fault : (ver : Version) (usable : IsUsable ver) (h : Config) (end n : ℕ) (lines : List (ℕ × List ℕ)) (number : ℕ) (c : Cause) → n ≢ 0 →
     rest_at ver h n lines ≡ Err (number, c) → IsFaultInRest ver h n end lines number c

@@ -73,17 +73,17 @@ section_again ver usable h n few total = rw ((thread_reads ver usable).again n f
 -- the tokens spell the entry
 abbrev EntrySpelled : Version → Config → ℕ → List (List ℕ) → Entry → Type 0
 EntrySpelled ver h n words entry.Section = Begins ver h n words
-EntrySpelled ver h n words (entry.Order c) = (words ≡ command_words c) × Fit ver h.words c
+EntrySpelled ver h n words (entry.Command c) = (words ≡ command_words c) × Fit ver h.words c
 
 entry_takes : (ver : Version) (usable : IsUsable ver) (h : Config) (n : ℕ) (words : List (List ℕ)) (e : Entry) → entry_at ver h n words ≡ Ok e →
     EntrySpelled ver h n words e
 unfolding entry_at
 entry_takes ver usable h n words e read =
-    elim (chosen (is_section words) (section_at ver h n words) (command_at ver h.words words >>= λ c. Ok (entry.Order c)) (Ok e) read) [
+    elim (chosen (is_section words) (section_at ver h n words) (command_at ver h.words words >>= λ c. Ok (entry.Command c)) (Ok e) read) [
       | inl p ↦ let t = section_takes ver usable h n words e p.1 in subst (EntrySpelled ver h n words) (sym t.1) t.0
       | inr p ↦
           let b = bind_ok (command_at ver h.words words) _ e p.1 in
-          subst (EntrySpelled ver h n words) (ok_is {E = Cause} (entry.Order b.0) e b.2) ((command_reads ver usable h.words).takes words b.0 b.1)
+          subst (EntrySpelled ver h n words) (ok_is {E = Cause} (entry.Command b.0) e b.2) ((command_reads ver usable h.words).takes words b.0 b.1)
     ]
 
 -- a verb's name doesn't begin a section
@@ -117,7 +117,7 @@ not_section : (ver : Version) (usable : IsUsable ver) (size : ℕ) (c : Command)
 not_section ver usable size c fits = let r = words_read ver usable c fits.1 fits.0.numbers in ap is_section r.2 ∙ verb_apart r.0
 
 order_again : (ver : Version) (usable : IsUsable ver) (h : Config) (n : ℕ) (c : Command) → Fit ver h.words c →
-    entry_at ver h n (command_words c) ≡ Ok (entry.Order c)
+    entry_at ver h n (command_words c) ≡ Ok (entry.Command c)
 unfolding entry_at
 order_again ver usable h n c fits = rw (not_section ver usable h.words c fits, (command_reads ver usable h.words).again c fits) refl
 
@@ -151,7 +151,7 @@ entry_more ver usable h n line lines entry.Section p s r =
       few = omega (arith, r.few, more);
       total = subst (λ (k : ℕ). total_words h k ≤ ver.heap_words) more r.total;
     }
-entry_more ver usable h n line lines (entry.Order c) p s r =
+entry_more ver usable h n line lines (entry.Command c) p s r =
     let here : line.1 ≡ spaced (command_words c) = sym (spaced-tokens_of line.1) ∙ ap spaced s.0 in
     record {
       lines_are = cc (here, r.lines_are);
@@ -165,7 +165,7 @@ entry_more ver usable h n line lines (entry.Order c) p s r =
 room_after : (ver : Version) (usable : IsUsable ver) (h : Config) (n : ℕ) (words : List (List ℕ)) (e : Entry) → EntrySpelled ver h n words e →
     n ≤ ver.threads → total_words h n ≤ ver.heap_words → (begun_after e n ≤ ver.threads) × (total_words h (begun_after e n) ≤ ver.heap_words)
 room_after ver usable h n words entry.Section s few total = (omega (arith, s.1), s.2)
-room_after ver usable h n words (entry.Order c) s few total = (few, total)
+room_after ver usable h n words (entry.Command c) s few total = (few, total)
 
 pub rest_takes : (ver : Version) (usable : IsUsable ver) (h : Config) (n : ℕ) (lines : List (ℕ × List ℕ)) (p : List Command × List (List Command)) →
     n ≤ ver.threads → total_words h n ≤ ver.heap_words → rest_at ver h n lines ≡ Ok p → RestSpelled ver h n lines p
@@ -203,7 +203,7 @@ module _ (ver : Version) (usable : IsUsable ver) (h : Config) where
   rest_again n (line ∷ lines) (c ∷ cs) ts fit fits few total e =
       let here : line.1 ≡ spaced (command_words c) = cc in
       let words : tokens_of line.1 ≡ command_words c = ap tokens_of here ∙ tokens_of-line (command_words c) (command_line h.words c fit.0.0) in
-      let read : entry_at ver h n (tokens_of line.1) ≡ Ok (entry.Order c) = ap (entry_at ver h n) words ∙ order_again ver usable h n c fit.0 in
+      let read : entry_at ver h n (tokens_of line.1) ≡ Ok (entry.Command c) = ap (entry_at ver h n) words ∙ order_again ver usable h n c fit.0 in
       let after : map text lines ≡ program_lines cs ++ section_lines n ts = cc in
       rw (read, rest_again n lines cs ts fit.1 fits few total after) refl
   rest_again n (line ∷ lines) [] (t ∷ ts) fit fits few total e =

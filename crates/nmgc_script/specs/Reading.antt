@@ -239,7 +239,7 @@ is_section (name ∷ words) = bytes_eq name (codes "thread")
 
 -- the entry of a line, if n sections began before it
 unfoldable pub entry_at : Version → Config → ℕ → List (List ℕ) → Result Entry Cause
-entry_at v h n words = if is_section words then section_at v h n words else command_at v h.words words >>= λ c. Ok (entry.Order c)
+entry_at v h n words = if is_section words then section_at v h n words else command_at v h.words words >>= λ c. Ok (entry.Command c)
 
 -- WHOLE SCRIPTS, whose lines have numbers
 
@@ -251,12 +251,12 @@ at_line n (Err c) = Err (n, c)
 -- the number of sections that began up to an entry, if n began before the entry
 abbrev pub begun_after : Entry → ℕ → ℕ
 begun_after entry.Section n = n + 1
-begun_after (entry.Order c) n = n
+begun_after (entry.Command c) n = n
 
 -- the commands up to the next section and the programs after it, with an entry put before them
 abbrev pub with_entry : Entry → List Command × List (List Command) → List Command × List (List Command)
 with_entry entry.Section rest = ([], rest.0 ∷ rest.1)
-with_entry (entry.Order c) rest = (c ∷ rest.0, rest.1)
+with_entry (entry.Command c) rest = (c ∷ rest.0, rest.1)
 
 -- the commands of the section that is read, and the programs of the sections after it
 unfoldable pub rest_at : Version → Config → ℕ → List (ℕ × List ℕ) → Result (List Command × List (List Command)) (ℕ × Cause)

@@ -32,8 +32,8 @@ const CONFIG: Config = Config {
     trigger: 8,
 };
 
-/// Returns the bench's script with `batches` batches for each mutator, from 1 to `MAX_BATCHES`. It is within the limits of a
-/// script, and its programs are short. Takes time and memory proportional to its length.
+/// Returns the bench's script, in which each of four mutators has `batches` batches. Requires 1 to `MAX_BATCHES` batches. The
+/// script is within the limits of scripts that are run. Takes time and memory proportional to its length.
 pub fn generate(alloc: Global, batches: u32) -> Result<Script, NoMemory>
     requires some { 1 ≤ batches }
     requires few { batches ≤ most_batches }
@@ -54,7 +54,7 @@ pub fn generate(alloc: Global, batches: u32) -> Result<Script, NoMemory>
     })
 }
 
-// Returns the program of `mutator`: `batches` batches.
+// Returns the program of `mutator`, which is `batches` copies of its batch.
 #[tactic(auto, using(crate::proofs::BenchLaws::once_more))]
 fn program(alloc: Global, batches: u32, mutator: u32) -> Result<List<PackedCommand>, NoMemory>
     requires { batches ≤ most_batches }
@@ -67,7 +67,7 @@ fn program(alloc: Global, batches: u32, mutator: u32) -> Result<List<PackedComma
     List::from_vec(commands)
 }
 
-// Appends a batch of `mutator`: the commands that drop its list, make another and store that.
+// Appends a batch of `mutator`: the commands that drop its list, make a new list, and store the new list.
 fn push_batch(commands: &mut Vec<PackedCommand>, mutator: u32) -> Result<(), NoMemory>
     ensures { OnOk result (commands.new.items ≡ commands.old.items ++ batch mutator) }
 {

@@ -1,8 +1,7 @@
 //! Why a script could not be read.
 //!
 //! The causes are in the order in which they are tried on a line, and the first that applies is reported. Easy to get wrong:
-//! a line with too few tokens and an unknown name has the cause `Command`. A line with a bad token and too few tokens has the
-//! cause `Arity`.
+//! a line with too few tokens and an unknown name has the cause `Command`. With a bad token and too few tokens it is `Arity`.
 ghost use Rattle.std.specs.Prelude.{◌≡◌};
 ghost use Rattle.nmgc_script.specs.declared.fault.LineFault.TheVariants.{NoMemory as no_memory};
 
@@ -56,6 +55,7 @@ pub enum ScriptFault {
     NoMemory,
 }
 
+// In each of these three, a lack of memory becomes the fault `NoMemory`.
 impl From<NoMemory> for LineFault {
     ghost from_gives = { λ _ e. e ≡ no_memory };
 

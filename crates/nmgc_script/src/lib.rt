@@ -2,12 +2,13 @@
 //!
 //! A script gives the sizes of a heap and a program of commands for each mutator. Its text is cut into lines and the lines
 //! into tokens. The first line that has a fault is reported by its number and cause. `specs/Spelling.antt` says which bytes
-//! spell a script. `specs/Faults.antt` says which fault a line has and which fault is reported. `spells_one_script` has the
-//! laws of both. A new command needs a `Verb` in `VERBS` with its `name`, and an arm of `likely`, so that it is found at
-//! once. A line in `read_command` (`commands`) reads it, and a line in `push_form` (`printing`) prints it. In `specs/` it
-//! needs a line of `verb_name` and `command_words` (`Spelling`) and a line of `operands_at` (`Reading`), and in `proofs/` its
-//! cases. The compiler reports a forgotten arm, and the prover reports a verb that `VERBS` lacks. The run, the report and the
-//! program depend on this crate, and no run begins before `parse` has returned.
+//! spell a script. `specs/Faults.antt` says which fault a line has and which fault is reported.
+//! `a_text_spells_at_most_one_script` has the laws of both. A new command needs a `Verb` in `VERBS` with its `name`, and an
+//! arm of `guess_verb`, so that it is found at once. A line in `read_command` (`commands`) reads it, and a line in
+//! `push_form` (`printing`) prints it. In `specs/` it needs a line of `verb_name` and `command_words` (`Spelling`) and a line
+//! of `operands_at` (`Reading`), and in `proofs/` its cases. The compiler reports a forgotten arm, except in `guess_verb`,
+//! and the prover a verb that `VERBS` lacks. The run, the report and the program depend on this crate, and no run begins
+//! before `parse` has returned.
 #![tactic(auto)]
 
 mod bench;
@@ -27,6 +28,6 @@ mod version;
 pub use bench::{MAX_BATCHES, generate};
 pub(crate) use fault::LineFault;
 pub use fault::{Cause, ScriptFault};
-pub use parsing::{is_too_long, parse, spells_one_script};
+pub use parsing::{a_text_spells_at_most_one_script, is_too_long, parse};
 pub use printing::print;
 pub use script::{Config, Script, upgrade};

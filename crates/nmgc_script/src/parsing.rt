@@ -2,12 +2,12 @@
 //!
 //! Lines are read in order. Each is cut into tokens in one vector that is reused, so the time is linear in the bytes. The
 //! first fault ends the reading, so the reported line is the first bad line. Easy to get wrong: if the text ends before the
-//! first section, the reported line is the line after the last, and lines that are passed over count.
+//! first section, the reported line is the line after the last, and lines that are passed over are counted too.
 ghost use Rattle.std.specs.Prelude.{◌≡◌, true, false, ℕ, ◌+◌, ◌<◌, ◌≤◌, ◌^◌, length, sum_by, IfErr, IfOk, MatchResult};
 ghost use Rattle.nmgc_script.specs.{Faults.IsFaultOf, Faults.IsFaultOfText, Limits.FitsConfig, Limits.lines_bytes, Limits.most_bytes, Spelling.Spells, declared.fault.Cause.Cause as Why, declared.script.Script.Script as Spelled, Text.kept_after, Text.end_after, Text.kept_lines, Text.end_of, declared.fault.ScriptFault.TheVariants.NoMemory as no_memory};
 ghost use Rattle.nmgc_script.specs.Reading.{GivesAt, at_line, version_at, heap_at, programs_at, threads_at, script_at, placed};
 
-use crate::config::heap_words;
+use crate::config::heap_config;
 use crate::sections::{Entry, read_entry, section};
 use crate::text::Lines;
 use crate::version::Version;
@@ -17,6 +17,7 @@ use nmgc_io::cut_tokens_within;
 use nmgc_lists::{List, NoMemory};
 use std::alloc::Global;
 
+// A lack of memory becomes the fault `NoMemory`.
 impl From<NoMemory> for ScriptFault {
     ghost from_gives = { λ _ e. e ≡ no_memory };
 
@@ -25,8 +26,9 @@ impl From<NoMemory> for ScriptFault {
     }
 }
 
-/// Returns the script that the bytes spell. `Bad` reports the first bad line, from 1, and its cause. If the text ends too
-/// early, the line is the line after the last. `NoMemory` says nothing about the bytes. Takes time linear in the bytes.
+/// Returns the script that the bytes spell. Requires at most 2^31 bytes. `Bad` reports the first bad line, from 1, and its
+/// first cause. If the text ends too early, this is the line after the last. `NoMemory` says nothing about the bytes. Takes
+/// time linear in the bytes.
 pub fn parse(alloc: Global, bytes: &[u8]) -> Result<Script, ScriptFault>
     requires { length bytes.now ≤ 2 ^ 31 }
     // The bytes spell the script that is read, and it is within the limits.
@@ -41,17 +43,17 @@ pub fn parse(alloc: Global, bytes: &[u8]) -> Result<Script, ScriptFault>
     script(alloc, bytes)
 }
 
-/// Proves that a text spells at most one script, that it has at most one first bad line with one first cause, and that no
-/// text has both. It does nothing: its contract is the law.
-pub fn spells_one_script(bytes: &[u8])
+/// Proves that a text spells at most one script, and that a text has at most one first bad line, with at most one first
+/// cause. If a text spells a script, it has no first bad line. The function does nothing: its contract is the law.
+pub fn a_text_spells_at_most_one_script(bytes: &[u8])
     ensures script { (one other : Spelled) → Spells bytes.now one → Spells bytes.now other → one ≡ other }
     ensures fault { (m n : ℕ) (c d : Why) → IsFaultOfText (end_of bytes.now) (kept_lines bytes.now) m c →
         IsFaultOfText (end_of bytes.now) (kept_lines bytes.now) n d → (m ≡ n) × (c ≡ d) }
     ensures never_both { (one : Spelled) (n : ℕ) (c : Why) → Spells bytes.now one → IsFaultOfText (end_of bytes.now) (kept_lines bytes.now) n c → ⊥ }
 {}
 
-/// Whether there are more bytes than a script that begins like them may have. This depends on the version that the first line
-/// names that isn't passed over. Takes no memory.
+/// Whether there are more bytes than a script that begins like them may have. Version 3 has the limit `MAX_SCRIPT_BYTES`.
+/// Bytes of any other version, or of none, have the limit of version 1. Requires at most 2^31 bytes. Takes no memory.
 pub fn is_too_long(bytes: &[u8]) -> bool
     requires { length bytes.now ≤ 2 ^ 31 }
     ensures long { result ≡ true → most_bytes bytes.now < length bytes.now }
@@ -63,18 +65,18 @@ pub fn is_too_long(bytes: &[u8]) -> bool
     false
 }
 
-// Returns the most bytes of a script that begins like the bytes.
+// Returns the greatest number of bytes that a script may have if it begins like `bytes`.
 fn most_bytes(bytes: &[u8]) -> usize
     requires { length bytes.now ≤ 2 ^ 31 }
     ensures { result ≡ most_bytes bytes.now }
 {
     let mut lines = Lines::new(bytes);
-    lines_bytes(&mut lines)
+    take_byte_limit(&mut lines)
 }
 
-// Takes the version line from `lines`, and returns the most bytes of a script with these lines.
+// Takes the next line, if any. Returns the most bytes of a script of version 3 if the line is `nmgc 3`, else of version 1.
 #[tactic(auto, unfolding(crate::specs::Limits::lines_bytes))]
-fn lines_bytes(lines: &mut Lines) -> usize
+fn take_byte_limit(lines: &mut Lines) -> usize
     ensures { result ≡ lines_bytes (kept_after lines.old.number lines.old.rest.now) }
 {
     let Some((_, line)) = lines.next() else {
@@ -93,10 +95,10 @@ fn script(alloc: Global, bytes: &[u8]) -> Result<Script, ScriptFault>
     ensures { GivesAt (λ s. s) result (script_at (end_of bytes.now) (kept_lines bytes.now)) }
 {
     let mut lines = Lines::new(bytes);
-    let mut words = Vec::new(alloc);
+    let mut tokens = Vec::new(alloc);
     let version = version_line(&mut lines)?;
-    let config = heap_line(version, &mut lines, &mut words)?;
-    let threads = threads(alloc, version, &config, &mut lines, &mut words)?;
+    let config = heap_line(version, &mut lines, &mut tokens)?;
+    let threads = threads(alloc, version, &config, &mut lines, &mut tokens)?;
     Ok(Script {
         version: version.number,
         config,
@@ -104,7 +106,7 @@ fn script(alloc: Global, bytes: &[u8]) -> Result<Script, ScriptFault>
     })
 }
 
-// Takes the version line from `lines`, and returns the version that it names.
+// Takes the version line from `lines`, and returns the version that the line names.
 #[tactic(auto, unfolding(crate::specs::Reading::version_at))]
 fn version_line(lines: &mut Lines) -> Result<Version, ScriptFault>
     ensures gives { GivesAt (λ v. (
@@ -140,7 +142,7 @@ fn version_line(lines: &mut Lines) -> Result<Version, ScriptFault>
 fn heap_line<'a>(
     version: Version,
     lines: &mut Lines<'a>,
-    words: &mut Vec<&'a [u8]>,
+    tokens: &mut Vec<&'a [u8]>,
 ) -> Result<Config, ScriptFault>
     ensures gives { GivesAt (λ c. (
       c,
@@ -156,12 +158,12 @@ fn heap_line<'a>(
             cause: Cause::Heap,
         });
     };
-    cut_tokens_within(words, line, lines.text())?;
-    at_line(number, heap_words(version, words))
+    cut_tokens_within(tokens, line, lines.text())?;
+    add_line_number(number, heap_config(version, tokens))
 }
 
-// Returns the result of reading a line, with the number of the line added to a fault.
-fn at_line<T>(number: u32, given: Result<T, LineFault>) -> Result<T, ScriptFault>
+// Returns `given`, the result for line `number`, with this number added to a `Bad`. A value and `NoMemory` stay as they are.
+fn add_line_number<T>(number: u32, given: Result<T, LineFault>) -> Result<T, ScriptFault>
     ensures { result ≡ placed number given }
 {
     match given {
@@ -174,13 +176,13 @@ fn at_line<T>(number: u32, given: Result<T, LineFault>) -> Result<T, ScriptFault
     }
 }
 
-// Reads all sections, from the lines after the heap line, and returns their programs.
+// Reads all lines after the heap line, and returns the programs of their sections.
 fn threads<'a>(
     alloc: Global,
     version: Version,
     config: &Config,
     lines: &mut Lines<'a>,
-    words: &mut Vec<&'a [u8]>,
+    tokens: &mut Vec<&'a [u8]>,
 ) -> Result<List<List<PackedCommand>>, ScriptFault>
     requires { FitsConfig version.segments config.now }
     ensures { GivesAt (λ t.
@@ -192,18 +194,18 @@ fn threads<'a>(
             cause: Cause::Thread,
         });
     };
-    cut_tokens_within(words, line, lines.text())?;
-    at_line(number, section(version, config, 0, words))?;
-    programs(alloc, version, config, lines, words)
+    cut_tokens_within(tokens, line, lines.text())?;
+    add_line_number(number, section(version, config, 0, tokens))?;
+    programs(alloc, version, config, lines, tokens)
 }
 
-// Reads all sections, from the lines after the first section line, and returns their programs.
+// Reads all lines after the first section line, and returns the programs of all sections.
 fn programs<'a>(
     alloc: Global,
     version: Version,
     config: &Config,
     lines: &mut Lines<'a>,
-    words: &mut Vec<&'a [u8]>,
+    tokens: &mut Vec<&'a [u8]>,
 ) -> Result<List<List<PackedCommand>>, ScriptFault>
     requires { FitsConfig version.segments config.now }
     ensures { GivesAt (λ t. t) result (programs_at version config.now (kept_after lines.old.number lines.old.rest.now)) }
@@ -212,14 +214,14 @@ fn programs<'a>(
     let mut program = List::new(alloc);
     let mut begun = 1;
     while let Some((number, line)) = lines.next() {
-        cut_tokens_within(words, line, lines.text())?;
-        match at_line(number, read_entry(alloc, version, config, begun, words))? {
+        cut_tokens_within(tokens, line, lines.text())?;
+        match add_line_number(number, read_entry(alloc, version, config, begun, tokens))? {
             Entry::Section => {
                 threads.push(program)?;
                 program = List::new(alloc);
                 begun += 1;
             }
-            Entry::Order(command) => program.push(command)?,
+            Entry::Command(command) => program.push(command)?,
         }
     }
     threads.push(program)?;

@@ -1,8 +1,7 @@
 //! Printing: the plain spelling of a script.
 //!
-//! It has no line that is passed over, and each line ends with a line feed. So the spelling is the same for each reader.
-//! Every token after the first stands after one space. Easy to get wrong: a thunk without free variables ends with its
-//! register and no space after it.
+//! It has no line that is passed over, and each line ends with a line feed. So a script has one plain spelling. There is one
+//! space before each token except the first. Easy to get wrong: no space ends the line of a thunk without free variables.
 ghost use Rattle.std.specs.Prelude.{◌≡◌, ◌∷◌, [], ◌++◌, decimal, map, IfOk, OnOk};
 ghost use Rattle.nmgc_commands.specs.Packed.{command_of};
 ghost use Rattle.nmgc_io.specs.Text.{after_spaces, ended, spaced};
@@ -17,7 +16,7 @@ use nmgc_lists::{List, NoMemory};
 use nmgc_world_spec::Operand;
 use std::alloc::Global;
 
-/// A token of a line after its first.
+/// A token of a line, except the line's first token.
 #[derive(Clone, Copy, Debug, PartialEq, Eq)]
 pub enum Word {
     Register(u8),
@@ -29,22 +28,22 @@ pub enum Word {
 
 use Word::{Number, Operand as Value, Register, Short, Tag};
 
-/// Returns the plain spelling of a script that is within the limits. `parse` reads it back. No clause bounds the length of
-/// the text; `parse` requires at most 2^31 bytes.
+/// Returns the plain spelling of a script. Requires a script within the limits. `parse` reads the text back if it has at most
+/// 2^31 bytes and memory suffices, but no clause bounds its length.
 pub fn print(alloc: Global, script: &Script) -> Result<Vec<u8>, NoMemory>
     requires { FitsScript script.now }
     ensures text { IfOk result (λ bytes. bytes.items ≡ plain script.now) }
     ensures back { IfOk result (λ bytes. Spells bytes.items script.now) }
 {
     let mut out = Vec::new(alloc);
-    push_version(&mut out, script.version)?;
-    push_heap(&mut out, &script.config)?;
+    push_version_line(&mut out, script.version)?;
+    push_heap_line(&mut out, &script.config)?;
     push_sections(&mut out, script.threads.items())?;
     Ok(out)
 }
 
 // Appends the line that names a version.
-fn push_version(out: &mut Vec<u8>, version: u8) -> Result<(), NoMemory>
+fn push_version_line(out: &mut Vec<u8>, version: u8) -> Result<(), NoMemory>
     ensures { OnOk result (out.new.items ≡ out.old.items ++ (spaced (version_words version) ++ 10 ∷ [])) }
 {
     push_line(out, b"nmgc", &[Word::Number(version as u64)])?;
@@ -121,7 +120,7 @@ fn push_long_line(
 }
 
 // A match on a form, which appends its verb's name and then its fields, each as a token of the given kind. The three groups
-// are commands of such fields alone, commands with operands after them, and commands without fields.
+// are commands of such fields alone, commands with operands after such fields, and commands without fields.
 macro_rules! printed {
     (
         $out:ident, $packed:ident,
@@ -192,7 +191,7 @@ fn push_program(out: &mut Vec<u8>, program: &[PackedCommand]) -> Result<(), NoMe
 }
 
 // Appends the line that begins the section of `thread`.
-fn push_section(out: &mut Vec<u8>, thread: usize) -> Result<(), NoMemory>
+fn push_section_line(out: &mut Vec<u8>, thread: usize) -> Result<(), NoMemory>
     ensures { OnOk result (out.new.items ≡ out.old.items ++ (spaced (section_words thread) ++ 10 ∷ [])) }
 {
     push_line(out, b"thread", &[Word::Number(thread as u64)])?;
@@ -205,14 +204,14 @@ fn push_sections(out: &mut Vec<u8>, threads: &[List<PackedCommand>]) -> Result<(
     ensures { OnOk result (out.new.items ≡ out.old.items ++ ended (section_lines 0 threads.now)) }
 {
     for (thread, program) in threads.iter().enumerate() {
-        push_section(out, thread)?;
+        push_section_line(out, thread)?;
         push_program(out, program.items())?;
     }
     Ok(())
 }
 
 // Appends the heap line.
-fn push_heap(out: &mut Vec<u8>, config: &Config) -> Result<(), NoMemory>
+fn push_heap_line(out: &mut Vec<u8>, config: &Config) -> Result<(), NoMemory>
     ensures { OnOk result (out.new.items ≡ out.old.items ++ (spaced (heap_words config.now) ++ 10 ∷ [])) }
 {
     push_line(

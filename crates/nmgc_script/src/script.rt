@@ -2,8 +2,7 @@
 //!
 //! `specs/Limits.antt` says which scripts are within the limits; the numbers are defined in `nmgc_limits`. A configuration
 //! alone can't keep the limit of the whole heap. There is one nursery for each thread, so the total is a limit of the script.
-//! Easy to get wrong: the least nursery depends on the words of a segment, since an object that fills a segment has to fit in
-//! a nursery first.
+//! Easy to get wrong: the least nursery depends on the words of a segment, since a nursery must have room for any object.
 ghost use Rattle.std.specs.Prelude.{◌≡◌};
 ghost use Rattle.nmgc_script.specs.Limits.{FitsScript, upgraded, upgraded_number};
 
@@ -36,7 +35,7 @@ pub struct Script {
     pub threads: List<List<PackedCommand>>,
 }
 
-/// Returns a script of version 1 in version 2, otherwise unchanged, and a script of a later version as it is. If `script` is
+/// Returns `script`, with version 2 in place of version 1. Scripts of other versions are returned as they are. If `script` is
 /// within the limits, so is the result. Takes no memory.
 pub fn upgrade(script: Script) -> Script
     ensures is { result ≡ upgraded script }
@@ -49,7 +48,7 @@ pub fn upgrade(script: Script) -> Script
     }
 }
 
-// Returns the version of the upgrade of a script of version `number`.
+// Returns the version number that an upgrade gives a script of version `number`: 2 in place of 1, and otherwise `number`.
 fn upgraded_number(number: u8) -> u8
     ensures { result ≡ upgraded_number number }
 {

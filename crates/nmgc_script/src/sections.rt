@@ -1,14 +1,14 @@
 //! Sections: the line that begins a section, and the commands up to the next.
 //!
-//! Sections are numbered from 0 in order. Each brings a nursery, so the total is checked when a section begins and not at the
-//! heap line. Easy to get wrong: the section that begins counts towards the total itself, and a first token `thread` makes a
-//! section line of any line after the heap line.
+//! Sections are numbered from 0 in order. Each brings a nursery, so the total of words is checked when a section begins and
+//! not at the heap line. Easy to get wrong: the section that begins is counted in the total. Any line after the heap line is
+//! a section line if its first token is `thread`.
 ghost use Rattle.std.specs.Prelude.{◌≡◌, ◌+◌, ◌<◌, ◌≤◌, map, IfOk};
 ghost use Rattle.nmgc_limits.specs.Limits.{most_segment_words};
 ghost use Rattle.nmgc_script.specs.{Limits.FitsConfig, Limits.total_words, Reading.Gives, Reading.thread_at, Reading.section_at, Reading.is_section, Reading.entry_at};
 
 use crate::commands::command;
-use crate::tokens::small;
+use crate::tokens::small_number;
 use crate::version::Version;
 use crate::{Cause, Config, LineFault};
 use nmgc_commands::PackedCommand;
@@ -20,22 +20,22 @@ pub enum Entry {
     /// The beginning of the next thread's section.
     Section,
     /// A command of the last section that began.
-    Order(PackedCommand),
+    Command(PackedCommand),
 }
 
 // Returns the thread number that the tokens of a section line spell.
 #[tactic(auto, unfolding(crate::specs::Reading::thread_at))]
-fn thread(version: Version, words: &[&[u8]]) -> Result<u8, LineFault>
-    ensures gives { Gives result (thread_at version (map (λ w. w.now) words.now)) }
+fn thread(version: Version, tokens: &[&[u8]]) -> Result<u8, LineFault>
+    ensures gives { Gives result (thread_at version (map (λ w. w.now) tokens.now)) }
     ensures within { IfOk result (λ n. n < 255) }
 {
-    let [name, number] = words else {
+    let [name, number] = tokens else {
         return Err(LineFault::Bad(Cause::Thread));
     };
     if *name != b"thread".as_slice() {
         return Err(LineFault::Bad(Cause::Thread));
     }
-    match small(number, version.threads.saturating_sub(1) as u32) {
+    match small_number(number, version.threads.saturating_sub(1) as u32) {
         Ok(number) => Ok(number as u8),
         Err(LineFault::NoMemory) => Err(LineFault::NoMemory),
         Err(LineFault::Bad(_)) => Err(LineFault::Bad(Cause::Thread)),
@@ -50,20 +50,21 @@ fn total_words(config: &Config, threads: u8) -> u64
     config.segments as u64 * config.words as u64 + threads as u64 * config.nursery as u64
 }
 
-/// Reads the line that begins the next section, after `begun` sections, and returns its entry. If it is no such line, `Bad`
-/// has the first cause. Takes no memory.
+/// Reads the section line of thread `begun`, and returns `Entry::Section`. Requires a config within the limits
+/// (`FitsConfig`). `Bad` has the first cause: `Thread` if the tokens aren't this line or the version has no such thread,
+/// `Total` if the section makes the heap too large. Takes no memory.
 #[tactic(auto, unfolding(crate::specs::Reading::section_at))]
 pub fn section(
     version: Version,
     config: &Config,
     begun: u8,
-    words: &[&[u8]],
+    tokens: &[&[u8]],
 ) -> Result<Entry, LineFault>
     requires { FitsConfig version.segments config.now }
-    ensures gives { Gives result (section_at version config.now begun (map (λ w. w.now) words.now)) }
+    ensures gives { Gives result (section_at version config.now begun (map (λ w. w.now) tokens.now)) }
     ensures within { IfOk result (λ e. begun < 255) }
 {
-    if thread(version, words)? != begun {
+    if thread(version, tokens)? != begun {
         return Err(LineFault::Bad(Cause::Thread));
     }
     if total_words(config, begun + 1) > u64::from(version.heap_words) {
@@ -72,32 +73,33 @@ pub fn section(
     Ok(Entry::Section)
 }
 
-// Whether the first token is the name of a section line.
-fn is_section(words: &[&[u8]]) -> bool
-    ensures { result ≡ is_section (map (λ w. w.now) words.now) }
+// Whether the first token is `thread`, with which each section line begins.
+fn is_section(tokens: &[&[u8]]) -> bool
+    ensures { result ≡ is_section (map (λ w. w.now) tokens.now) }
 {
-    match words {
+    match tokens {
         [name, ..] => *name == b"thread".as_slice(),
         [] => false,
     }
 }
 
 /// Reads a line after the first section line, with `begun` sections before it, and returns its content: the beginning of the
-/// next section, or a command. `Bad` has the line's first cause. Takes memory only for a command's operands.
+/// next section, or a command. Requires a config within the limits (`FitsConfig`). `Bad` has the line's first cause. Takes
+/// memory only for a command's operands.
 #[tactic(auto, unfolding(crate::specs::Reading::entry_at))]
 pub fn read_entry(
     alloc: Global,
     version: Version,
     config: &Config,
     begun: u8,
-    words: &[&[u8]],
+    tokens: &[&[u8]],
 ) -> Result<Entry, LineFault>
     requires { FitsConfig version.segments config.now }
-    ensures gives { Gives result (entry_at version config.now begun (map (λ w. w.now) words.now)) }
+    ensures gives { Gives result (entry_at version config.now begun (map (λ w. w.now) tokens.now)) }
     ensures within { IfOk result (λ e. e ≡ Entry.Section → begun < 255) }
 {
-    if is_section(words) {
-        return section(version, config, begun, words);
+    if is_section(tokens) {
+        return section(version, config, begun, tokens);
     }
-    Ok(Entry::Order(command(alloc, version, words, config.words)?))
+    Ok(Entry::Command(command(alloc, version, tokens, config.words)?))
 }

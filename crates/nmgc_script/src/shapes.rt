@@ -16,137 +16,137 @@ use std::alloc::Global;
 const MAX_FREE: usize = 8;
 
 impl Version {
-    /// Reads the shape `D`: a register to be written. Takes no memory.
+    /// Reads a token of the shape `D`, and returns the register to be written. Takes no memory.
     #[tactic(auto, unfolding(crate::specs::Reading::one_at))]
-    pub fn dest(self, words: &[&[u8]]) -> Result<u8, LineFault>
-        ensures { Gives result (one_at (register_at self) (map (λ w. w.now) words.now)) }
+    pub fn dest(self, tokens: &[&[u8]]) -> Result<u8, LineFault>
+        ensures { Gives result (one_at (register_at self) (map (λ w. w.now) tokens.now)) }
     {
-        let [dest] = words else {
+        let [dest] = tokens else {
             return Err(LineFault::Bad(Cause::Arity));
         };
         self.register(dest)
     }
 
-    /// Reads the shape `V`: an operand. Takes no memory.
+    /// Reads a token of the shape `V`, and returns the operand. Takes no memory.
     #[tactic(auto, unfolding(crate::specs::Reading::one_at))]
-    pub fn value(self, words: &[&[u8]]) -> Result<Operand, LineFault>
-        ensures { Gives result (one_at (operand_at self) (map (λ w. w.now) words.now)) }
+    pub fn value(self, tokens: &[&[u8]]) -> Result<Operand, LineFault>
+        ensures { Gives result (one_at (operand_at self) (map (λ w. w.now) tokens.now)) }
     {
-        let [value] = words else {
+        let [value] = tokens else {
             return Err(LineFault::Bad(Cause::Arity));
         };
         self.operand(value)
     }
 
-    /// Reads the shape `D N`: a register to be written, and a number below 2^62. Takes no memory.
+    /// Reads tokens of the shape `D N`, and returns the register to be written and the number, below 2^62. Takes no memory.
     #[tactic(auto, unfolding(crate::specs::Reading::two_at))]
-    pub fn dest_number(self, words: &[&[u8]]) -> Result<(u8, u64), LineFault>
-        ensures { Gives result (two_at (register_at self) long_at (map (λ w. w.now) words.now)) }
+    pub fn dest_number(self, tokens: &[&[u8]]) -> Result<(u8, u64), LineFault>
+        ensures { Gives result (two_at (register_at self) long_at (map (λ w. w.now) tokens.now)) }
     {
-        let [dest, number] = words else {
+        let [dest, number] = tokens else {
             return Err(LineFault::Bad(Cause::Arity));
         };
-        Ok((self.register(dest)?, self.long(number)?))
+        Ok((self.register(dest)?, self.long_number(number)?))
     }
 
-    /// Reads the shape `D COUNT`: a register to be written, and a count. Takes no memory.
+    /// Reads tokens of the shape `D COUNT`, and returns the register to be written and the count. Takes no memory.
     #[tactic(auto, unfolding(crate::specs::Reading::two_at))]
-    pub fn dest_count(self, words: &[&[u8]]) -> Result<(u8, u32), LineFault>
-        ensures { Gives result (two_at (register_at self) short_at (map (λ w. w.now) words.now)) }
+    pub fn dest_count(self, tokens: &[&[u8]]) -> Result<(u8, u32), LineFault>
+        ensures { Gives result (two_at (register_at self) short_at (map (λ w. w.now) tokens.now)) }
     {
-        let [dest, count] = words else {
+        let [dest, count] = tokens else {
             return Err(LineFault::Bad(Cause::Arity));
         };
-        Ok((self.register(dest)?, self.short(count)?))
+        Ok((self.register(dest)?, self.short_number(count)?))
     }
 
-    /// Reads the shape `D V`: a register to be written, and an operand. Takes no memory.
+    /// Reads tokens of the shape `D V`, and returns the register to be written and the operand. Takes no memory.
     #[tactic(auto, unfolding(crate::specs::Reading::two_at))]
-    pub fn dest_value(self, words: &[&[u8]]) -> Result<(u8, Operand), LineFault>
-        ensures { Gives result (two_at (register_at self) (operand_at self) (map (λ w. w.now) words.now)) }
+    pub fn dest_value(self, tokens: &[&[u8]]) -> Result<(u8, Operand), LineFault>
+        ensures { Gives result (two_at (register_at self) (operand_at self) (map (λ w. w.now) tokens.now)) }
     {
-        let [dest, value] = words else {
+        let [dest, value] = tokens else {
             return Err(LineFault::Bad(Cause::Arity));
         };
         Ok((self.register(dest)?, self.operand(value)?))
     }
 
-    /// Reads the shape `V V`: two operands. Takes no memory.
+    /// Reads tokens of the shape `V V`, and returns the two operands. Takes no memory.
     #[tactic(auto, unfolding(crate::specs::Reading::two_at))]
-    pub fn values(self, words: &[&[u8]]) -> Result<(Operand, Operand), LineFault>
-        ensures { Gives result (two_at (operand_at self) (operand_at self) (map (λ w. w.now) words.now)) }
+    pub fn values(self, tokens: &[&[u8]]) -> Result<(Operand, Operand), LineFault>
+        ensures { Gives result (two_at (operand_at self) (operand_at self) (map (λ w. w.now) tokens.now)) }
     {
-        let [left, right] = words else {
+        let [left, right] = tokens else {
             return Err(LineFault::Bad(Cause::Arity));
         };
         Ok((self.operand(left)?, self.operand(right)?))
     }
 
-    /// Reads the shape `V I`, an operand and an index, with which longer shapes begin. Takes no memory.
+    /// Reads tokens of the shape `V I`, with which longer shapes begin. Returns the operand and the index. Takes no memory.
     #[tactic(auto, unfolding(crate::specs::Reading::two_at))]
-    fn value_index(self, words: &[&[u8]]) -> Result<(Operand, u32), LineFault>
-        ensures { Gives result (two_at (operand_at self) short_at (map (λ w. w.now) words.now)) }
+    fn value_index(self, tokens: &[&[u8]]) -> Result<(Operand, u32), LineFault>
+        ensures { Gives result (two_at (operand_at self) short_at (map (λ w. w.now) tokens.now)) }
     {
-        let [value, index] = words else {
+        let [value, index] = tokens else {
             return Err(LineFault::Bad(Cause::Arity));
         };
-        Ok((self.operand(value)?, self.short(index)?))
+        Ok((self.operand(value)?, self.short_number(index)?))
     }
 
-    /// Reads the shape `D COUNT V`: a register to be written, a count and an operand. Takes no memory.
+    /// Reads tokens of the shape `D COUNT V`. Returns the register to be written, the count and the operand. Takes no memory.
     #[tactic(auto, unfolding(crate::specs::Reading::three_at))]
-    pub fn dest_count_value(self, words: &[&[u8]]) -> Result<(u8, u32, Operand), LineFault>
-        ensures { Gives result (three_at (register_at self) short_at (operand_at self) (map (λ w. w.now) words.now)) }
+    pub fn dest_count_value(self, tokens: &[&[u8]]) -> Result<(u8, u32, Operand), LineFault>
+        ensures { Gives result (three_at (register_at self) short_at (operand_at self) (map (λ w. w.now) tokens.now)) }
     {
-        let [dest, count, value] = words else {
-            return Err(LineFault::Bad(Cause::Arity));
-        };
-        Ok((
-            self.register(dest)?,
-            self.short(count)?,
-            self.operand(value)?,
-        ))
-    }
-
-    /// Reads the shape `D V I`: a register to be written, an operand and an index. Takes no memory.
-    #[tactic(auto, unfolding(crate::specs::Reading::three_at))]
-    pub fn dest_value_index(self, words: &[&[u8]]) -> Result<(u8, Operand, u32), LineFault>
-        ensures { Gives result (three_at (register_at self) (operand_at self) short_at (map (λ w. w.now) words.now)) }
-    {
-        let [dest, value, index] = words else {
+        let [dest, count, value] = tokens else {
             return Err(LineFault::Bad(Cause::Arity));
         };
         Ok((
             self.register(dest)?,
+            self.short_number(count)?,
             self.operand(value)?,
-            self.short(index)?,
         ))
     }
 
-    /// Reads the shape `V I V`: an operand, an index and an operand. Takes no memory.
+    /// Reads tokens of the shape `D V I`. Returns the register to be written, the operand and the index. Takes no memory.
     #[tactic(auto, unfolding(crate::specs::Reading::three_at))]
-    pub fn value_index_value(self, words: &[&[u8]]) -> Result<(Operand, u32, Operand), LineFault>
-        ensures { Gives result (three_at (operand_at self) short_at (operand_at self) (map (λ w. w.now) words.now)) }
+    pub fn dest_value_index(self, tokens: &[&[u8]]) -> Result<(u8, Operand, u32), LineFault>
+        ensures { Gives result (three_at (register_at self) (operand_at self) short_at (map (λ w. w.now) tokens.now)) }
     {
-        let [object, index, value] = words else {
+        let [dest, value, index] = tokens else {
+            return Err(LineFault::Bad(Cause::Arity));
+        };
+        Ok((
+            self.register(dest)?,
+            self.operand(value)?,
+            self.short_number(index)?,
+        ))
+    }
+
+    /// Reads tokens of the shape `V I V`. Returns the first operand, the index and the second operand. Takes no memory.
+    #[tactic(auto, unfolding(crate::specs::Reading::three_at))]
+    pub fn value_index_value(self, tokens: &[&[u8]]) -> Result<(Operand, u32, Operand), LineFault>
+        ensures { Gives result (three_at (operand_at self) short_at (operand_at self) (map (λ w. w.now) tokens.now)) }
+    {
+        let [object, index, value] = tokens else {
             return Err(LineFault::Bad(Cause::Arity));
         };
         Ok((
             self.operand(object)?,
-            self.short(index)?,
+            self.short_number(index)?,
             self.operand(value)?,
         ))
     }
 
-    /// Reads the shape `V I V V`: an operand, an index and two operands. Takes no memory.
+    /// Reads tokens of the shape `V I V V`. Returns the first operand, the index and the other two operands. Takes no memory.
     #[tactic(auto, unfolding(crate::specs::Reading::four_at))]
     pub fn value_index_values(
         self,
-        words: &[&[u8]],
+        tokens: &[&[u8]],
     ) -> Result<(Operand, u32, Operand, Operand), LineFault>
-        ensures { Gives result (four_at (operand_at self) short_at (operand_at self) (operand_at self) (map (λ w. w.now) words.now)) }
+        ensures { Gives result (four_at (operand_at self) short_at (operand_at self) (operand_at self) (map (λ w. w.now) tokens.now)) }
     {
-        let [object, index, left, right] = words else {
+        let [object, index, left, right] = tokens else {
             return Err(LineFault::Bad(Cause::Arity));
         };
         let (object, index) = self.value_index(&[object, index])?;
@@ -154,12 +154,12 @@ impl Version {
         Ok((object, index, left, right))
     }
 
-    /// Reads the shape `D V V V`: a register to be written, and three operands. Takes no memory.
+    /// Reads tokens of the shape `D V V V`, and returns the register to be written and the three operands. Takes no memory.
     #[tactic(auto, unfolding(crate::specs::Reading::four_at))]
-    pub fn dest_values(self, words: &[&[u8]]) -> Result<(u8, Operand, Operand, Operand), LineFault>
-        ensures { Gives result (four_at (register_at self) (operand_at self) (operand_at self) (operand_at self) (map (λ w. w.now) words.now)) }
+    pub fn dest_values(self, tokens: &[&[u8]]) -> Result<(u8, Operand, Operand, Operand), LineFault>
+        ensures { Gives result (four_at (register_at self) (operand_at self) (operand_at self) (operand_at self) (map (λ w. w.now) tokens.now)) }
     {
-        let [dest, first, second, third] = words else {
+        let [dest, first, second, third] = tokens else {
             return Err(LineFault::Bad(Cause::Arity));
         };
         let (dest, first) = self.dest_value(&[dest, first])?;
@@ -167,16 +167,16 @@ impl Version {
         Ok((dest, first, second, third))
     }
 
-    /// Reads the shape `D TAG V V ..`: a register to be written, a tag, and any number of operands.
+    /// Reads tokens of the shape `D TAG V V ..`. Returns the register to be written, the tag, and any number of operands.
     #[tactic(auto, unfolding(crate::specs::Reading::con_at))]
     pub fn dest_tag_values(
         self,
         alloc: Global,
-        words: &[&[u8]],
+        tokens: &[&[u8]],
     ) -> Result<(u8, u8, Operands), LineFault>
-        ensures { Gives result (con_at self (map (λ w. w.now) words.now)) }
+        ensures { Gives result (con_at self (map (λ w. w.now) tokens.now)) }
     {
-        let [dest, tag, values @ ..] = words else {
+        let [dest, tag, values @ ..] = tokens else {
             return Err(LineFault::Bad(Cause::Arity));
         };
         Ok((
@@ -186,16 +186,16 @@ impl Version {
         ))
     }
 
-    /// Reads the shape `D V V ..`: a register to be written, and at most eight operands.
+    /// Reads tokens of the shape `D V V ..`, with at most eight `V`. Returns the register to be written, and the operands.
     #[tactic(auto, unfolding(crate::specs::Reading::thunk_at))]
     pub fn dest_few_values(
         self,
         alloc: Global,
-        words: &[&[u8]],
+        tokens: &[&[u8]],
     ) -> Result<(u8, Operands), LineFault>
-        ensures { Gives result (thunk_at self (map (λ w. w.now) words.now)) }
+        ensures { Gives result (thunk_at self (map (λ w. w.now) tokens.now)) }
     {
-        let [dest, values @ ..] = words else {
+        let [dest, values @ ..] = tokens else {
             return Err(LineFault::Bad(Cause::Arity));
         };
         if values.len() > MAX_FREE {

@@ -1,8 +1,7 @@
 //! The lines of a text that are read.
 //!
 //! `Lines` iterates over the lines that are neither blank nor comments, and keeps the number of the next line of the text.
-//! Easy to get wrong: a line that is passed over still has a number. If the text ends too early, the reported line doesn't
-//! exist.
+//! Easy to get wrong: lines that are passed over are counted. If the text ends too early, the reported line doesn't exist.
 ghost use Rattle.std.specs.Prelude.{◌≡◌, ◌+◌, ◌<◌, ◌≤◌, ◌^◌, [], ◌∷◌, length, take, IfSome, IfNone};
 ghost use Rattle.nmgc_script.specs.Text.{kept_after, end_after, kept_lines, end_of};
 
@@ -38,14 +37,16 @@ impl<'a> Lines<'a> {
         self.number
     }
 
-    /// Returns the text from the beginning of the last line that `next` returned.
+    /// Returns the text from the beginning of the line that `next` returned last, or the whole text if `next` has returned no
+    /// line yet.
     pub fn text(&self) -> &'a [u8]
         ensures { result.now ≡ self.now.text.now }
     {
         self.text
     }
 
-    /// Returns the next line that isn't passed over, with its number, and moves past it. After `None` the text is at its end.
+    /// Returns the number and the text of the next line that is neither blank nor a comment, and moves past it. After `None`
+    /// no text is left.
     pub fn next(&mut self) -> Option<(u32, &'a [u8])>
         ensures line { IfSome result (λ line. kept_after self.old.number self.old.rest.now ≡ (line.0, line.1.now) ∷
             kept_after self.new.number self.new.rest.now) }

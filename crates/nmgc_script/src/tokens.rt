@@ -1,8 +1,8 @@
 //! Single tokens: numbers, registers and operands.
 //!
 //! A number has no sign and no leading zero, so each value has one token. The version determines the registers, so the
-//! version reads the tokens of a command. Easy to get wrong: the empty token, which two spaces in a row make, is none of
-//! these.
+//! functions for tokens of a command are methods of `Version`. Easy to get wrong: the empty token, which two spaces in a row
+//! make, is none of these.
 ghost use Rattle.nmgc_script.specs.Reading.{Gives, number_at, register_at, operand_at, long_at, short_at, tag_at, each_at};
 ghost use Rattle.std.specs.Prelude.{[], ◌∷◌, ◌≤◌, map, IfOk};
 
@@ -22,7 +22,7 @@ const MAX_TAG: u64 = 255;
 /// The greatest index of a field, and the greatest number of parts of an object.
 const MAX_INDEX: u64 = 65535;
 
-/// Returns the number of at most `limit` that a token spells. Takes no memory.
+/// Returns the number of at most `limit` that a token spells, or a fault with the cause `Operand`. Takes no memory.
 #[tactic(auto, unfolding(crate::specs::Reading::number_at))]
 pub fn number(word: &[u8], limit: u64) -> Result<u64, LineFault>
     ensures gives { Gives result (number_at limit word.now) }
@@ -35,7 +35,7 @@ pub fn number(word: &[u8], limit: u64) -> Result<u64, LineFault>
 }
 
 /// Returns the number of at most `limit` that a token spells, in 32 bits. Takes no memory.
-pub fn small(word: &[u8], limit: u32) -> Result<u32, LineFault>
+pub fn small_number(word: &[u8], limit: u32) -> Result<u32, LineFault>
     ensures gives { Gives result (number_at limit word.now) }
     ensures within { IfOk result (λ n. n ≤ limit) }
 {
@@ -43,21 +43,21 @@ pub fn small(word: &[u8], limit: u32) -> Result<u32, LineFault>
 }
 
 impl Version {
-    /// Returns the number of a value that a token spells, below 2^62 in each version. Takes no memory.
-    pub fn long(self, word: &[u8]) -> Result<u64, LineFault>
+    /// Returns the number that a token spells as a value, below 2^62 in each version. Takes no memory.
+    pub fn long_number(self, word: &[u8]) -> Result<u64, LineFault>
         ensures { Gives result (long_at word.now) }
     {
         number(word, MAX_NUMBER)
     }
 
     /// Returns the index or count that a token spells, at most 65,535 in each version. Takes no memory.
-    pub fn short(self, word: &[u8]) -> Result<u32, LineFault>
+    pub fn short_number(self, word: &[u8]) -> Result<u32, LineFault>
         ensures { Gives result (short_at word.now) }
     {
         Ok(number(word, MAX_INDEX)? as u32)
     }
 
-    /// Returns the tag of a constructor that a token spells, at most 255 in each version. Takes no memory.
+    /// Returns the tag that a token spells for a constructor, at most 255 in each version. Takes no memory.
     pub fn tag(self, word: &[u8]) -> Result<u8, LineFault>
         ensures { Gives result (tag_at word.now) }
     {
@@ -97,15 +97,15 @@ impl Version {
         Ok(Operands::pair(first, second))
     }
 
-    /// Returns the operands that tokens spell, one each. A few operands take no memory.
-    pub fn operands(self, alloc: Global, words: &[&[u8]]) -> Result<Operands, LineFault>
-        ensures { Gives result (each_at (operand_at self) (map (λ w. w.now) words.now)) }
+    /// Returns the operands that tokens spell, one operand for each token. At most six operands take no memory.
+    pub fn operands(self, alloc: Global, tokens: &[&[u8]]) -> Result<Operands, LineFault>
+        ensures { Gives result (each_at (operand_at self) (map (λ w. w.now) tokens.now)) }
     {
-        if let [first, second] = words {
+        if let [first, second] = tokens {
             return self.pair(first, second);
         }
         let mut operands = Operands::new();
-        for word in words {
+        for word in tokens {
             operands.push(alloc, self.operand(word)?)?;
         }
         Ok(operands)

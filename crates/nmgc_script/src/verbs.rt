@@ -1,9 +1,9 @@
 //! The names of commands.
 //!
 //! This is the one table of names, for reading and for printing. A name is looked up before the rest of its line is checked.
-//! So an unknown name is reported even if the line has too many tokens. The first letters give a guess of the verb. Only if
-//! the guess is wrong, all verbs are compared. So only the time of a long script depends on the guess. Easy to get wrong: a
-//! verb that is missing in `VERBS` could be printed but not read.
+//! So an unknown name is reported even if the line has too many tokens. The first letters give a guess of the verb. All verbs
+//! are compared only if the guess is wrong, so only the time of a long script depends on it. Easy to get wrong: a verb that
+//! is missing in `VERBS` could be printed but not read.
 ghost use Rattle.std.specs.Prelude.{◌≡◌};
 ghost use Rattle.nmgc_script.specs.{Reading.Gives, Reading.first_named, Reading.verb_at, Spelling.verb_name};
 
@@ -102,7 +102,7 @@ impl Verb {
 
 // Returns a guess of the verb with this name. If there is such a verb, the guess is right: the letters that are compared
 // distinguish it from all other verbs. No clause is about the guess.
-fn likely(name: &[u8]) -> Verb {
+fn guess_verb(name: &[u8]) -> Verb {
     match name {
         [b'c', b'o', b'n', ..] => Verb::Con,
         [b'g', ..] => Verb::Get,
@@ -135,7 +135,7 @@ fn likely(name: &[u8]) -> Verb {
 pub fn verb_of(name: &[u8]) -> Result<Verb, LineFault>
     ensures { Gives result (verb_at name.now) }
 {
-    let verb = likely(name);
+    let verb = guess_verb(name);
     if name == verb.name() {
         return Ok(verb);
     }

@@ -1,9 +1,9 @@
 //! Versions of the grammar.
 //!
-//! A script's first line names its version. All differences between versions are in one value, which the functions that read
-//! a line receive. It has the most threads, segments, words of the heap and bytes, and the registers that a command names. An
-//! old version may allow fewer than there are. Their facts are laws of any usable version (`specs/laws/Versions.antt`). So a
-//! fourth version is a constant and a line that is read.
+//! A script's first line names its version. All differences between versions are in one value, a `Version`, which the
+//! functions that read a line receive. It has the most threads, segments, words of the heap and bytes, and the number of
+//! registers that a command can name. An old version may allow fewer than there are. The laws of versions are about any
+//! usable version (`specs/laws/Versions.antt`). So a fourth version is a constant and a line that is read.
 ghost use Rattle.std.specs.Prelude.{◌≡◌};
 ghost use Rattle.nmgc_script.specs.Limits.{version_1, version_2, version_3};
 

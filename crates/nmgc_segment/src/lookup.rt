@@ -2,7 +2,7 @@
 //!
 //! For blocks of d words, the distance of the word from the segment's first word is multiplied by 65,536 / d, rounded up. The
 //! product without its 16 lowest binary digits is the number of the block that holds the word. These digits are below the
-//! factor exactly if the block begins at the word. A segment has at most 4,096 words, so errors never reach the factor.
+//! factor exactly if the block begins at the word. In at most 4,096 words, rounding errors stay below the factor.
 ghost use Rattle.std.specs.Prelude.{ℕ, ◌≡◌, ◌≢◌, ◌*◌, ◌<◌, ◌≤◌, IfSome, IfNone};
 ghost use Rattle.nmgc_object.specs.{Size.block_size, declared.size.TheConstants.MAX_BLOCK_WORDS};
 
@@ -14,9 +14,9 @@ static RECIPROCALS: [u32; MAX_CLASS as usize + 1] = [
     512, 256, 128, 64, 32, 16,
 ];
 
-/// Returns the number of the block, among blocks of the class, that begins `offset` words after the segment's first word.
-/// Returns `None` exactly if no block begins there. Takes no memory, and constant time.
-pub fn block_with(offset: u32, class: u8) -> Option<u32>
+/// Returns the number of the block that begins `offset` words into a segment with blocks of the class, or `None` exactly if
+/// none does. The number may be past the segment's last block. Takes no memory, and constant time.
+pub fn block_at_offset(offset: u32, class: u8) -> Option<u32>
     requires offset { offset < MAX_BLOCK_WORDS }
     requires class { class ≤ MAX_CLASS }
     ensures some { IfSome result (λ block. offset ≡ block * block_size class) }

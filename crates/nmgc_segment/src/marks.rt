@@ -1,18 +1,17 @@
-//! Loops over mark bytes, sixteen at a time, and byte by byte over the rest. A segment has up to 1,024 mark bytes, and each
-//! sweep and each closing goes through all of them. A loop that changes bytes takes two sixteens in each step while two are
-//! left, or its overhead would be the cost of the bytes again.
+//! Loops over mark bytes, sixteen at a time (a vector), and byte by byte over the rest. A segment has up to 1,024 mark bytes,
+//! and a sweep of the segment goes through all of them. So does each closing, unless the segment is free or waits to be
+//! swept. A loop that changes bytes takes two vectors in each step while two are left. With one in each step, the loop's
+//! overhead would double the cost.
 //!
-//! Easy to get wrong: a search that advances by the number of bytes it just found waits for each sixteen before it loads the
-//! next. So it advances by sixteen, and uses the number only at the end.
+//! Easy to get wrong: a search that advances by the result of `run_before` waits for each vector's result before it loads the
+//! next. So the search advances by sixteen, and uses the result only at the end.
 //!
 //! # Note [Why two epochs are enough]
 //!
-//! A mark byte is 0 or a cycle's epoch. Epochs are 1 and 2 in turn, so a byte left over would look marked two cycles later.
-//! None is left over:
+//! A mark byte is 0 or a cycle's epoch. Epochs are 1 and 2 in turn. No byte stays that would look marked two cycles later:
 //! - A `sweep` clears every byte that isn't the cycle's epoch. All waiting segments are swept before the next cycle begins.
-//! - Other segments keep their blocks in use. At the closing, `carry` gives the cycle's epoch to all their bytes except 0. It
-//!   can't clear them: at or above `next_free` only such a byte says that the block is in use, and at or above `snap` that it
-//!   is in the snapshot.
+//! - Other segments keep their blocks. A closing's `carry` gives the epoch to each byte except 0. It can't clear it: at or
+//!   above `next_free` only such a byte says that the block is in use, and at or above `snap` that it is in the snapshot.
 //! - The bytes of a free segment are 0, and so is the byte of each block allocated since the snapshot.
 //!
 //! So between cycles every byte is 0 or the last epoch (`AreSettled` in `nmgc_alloc`), never the next: a cycle begins without
@@ -26,13 +25,14 @@ use std::simd::prelude::*;
 // The number of mark bytes in a vector.
 const LANES: usize = 16;
 
-// The plain loop of a sweep is faster, as compiled, if there are at least two vectors but fewer mark bytes than this.
+// A sweep uses vectors from this number of mark bytes on, and below two vectors' bytes. In between, the plain loop is faster,
+// as compiled.
 const SWEPT_BY_LANES: usize = 512;
 
-// The same bound for carrying marks over.
+// The corresponding number for carrying marks over, which is smaller.
 const CARRIED_BY_LANES: usize = 128;
 
-// Returns how many bytes of the vector at `at` come before the first byte that equals `byte`, or `LANES` if none does.
+// Returns how many bytes of the vector at `at` come before the first that equals `byte`, or `LANES` if no byte equals it.
 #[inline(always)]
 fn run_before(marks: &[u8], at: usize, byte: u8) -> usize
     requires { at + LANES ≤ length marks.now }
@@ -48,7 +48,7 @@ fn run_before(marks: &[u8], at: usize, byte: u8) -> usize
     }
 }
 
-// Returns the position of the first byte from `from` on and below `to` that equals `byte`, or `to` if none does.
+// Returns the position of the first byte from `from` on and below `to` that equals `byte`, or `to` if there is none.
 fn first_of(marks: &[u8], from: usize, to: usize, byte: u8) -> usize
     requires from { from ≤ to }
     requires to { to ≤ length marks.now }
@@ -70,7 +70,7 @@ fn first_of(marks: &[u8], from: usize, to: usize, byte: u8) -> usize
     to
 }
 
-/// Returns the first block from `from` on that isn't marked, or `blocks` if all are marked.
+/// Returns the first block from `from` on whose mark byte is 0, or `blocks`, the number of blocks, if there is none.
 pub fn first_unmarked(marks: &[u8], from: u32, blocks: u32) -> u32
     requires from { from ≤ blocks }
     requires blocks { blocks ≤ length marks.now }
@@ -90,7 +90,8 @@ fn has_mark(marks: &[u8], epoch: u8) -> bool
     marks.contains(&epoch)
 }
 
-/// Whether any block is still marked after a sweep of the epoch. Reads bytes only if `first`, the first unmarked block, is 0.
+/// Whether any mark byte isn't 0. Requires that each byte is 0 or the epoch, as after a sweep, and that block 0 is marked if
+/// `first`, the first unmarked block, isn't 0. Reads bytes only if `first` is 0.
 pub fn is_any_marked(marks: &[u8], first: u32, epoch: u8) -> bool
     requires epoch { IsEpoch epoch }
     requires swept { (b : ℕ) → slice_index marks.now b ≢ 0 → slice_index marks.now b ≡ epoch }
@@ -129,7 +130,7 @@ fn carry_rest(marks: &mut [u8], epoch: u8)
     }
 }
 
-// Sets each mark byte to the epoch, by vectors, unless the byte is 0.
+// Sets each mark byte to the epoch, unless the byte is 0: by vectors, and the rest byte by byte.
 fn carry_by_lanes(marks: &mut [u8], epoch: u8)
     ensures { marks.new ≡ map (carried epoch) marks.old }
 {
@@ -186,7 +187,7 @@ fn sweep_rest(marks: &mut [u8], epoch: u8)
     }
 }
 
-// Clears each mark byte, by vectors, unless the byte is the epoch.
+// Clears each mark byte, unless the byte is the epoch: by vectors, and the rest byte by byte.
 fn sweep_by_lanes(marks: &mut [u8], epoch: u8)
     ensures { marks.new ≡ map (swept epoch) marks.old }
 {

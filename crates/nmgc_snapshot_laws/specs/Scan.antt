@@ -1,5 +1,4 @@
--- The values that a scan reads, and the end of an object's scan. Position 0 is the header, and position i + 1 is field i. A
--- thunk's field 0 is its result, and its free variables follow.
+-- The values that a scan reads, and the end of a scan. A thunk's result is its field 0, before its free variables.
 use Rattle.std.specs.Prelude.{ℕ, ◌+◌, List, [], ◌∷◌, length, slice_get, Option, Some, None, Bool, nat_le, ◌==◌, ◌||◌, ◌&&◌, if◌then◌else◌, zero, suc}
 use Rattle.nmgc_world_spec.specs.{declared.value.Value.Value, declared.node.Node.Node, declared.node.Node.TheVariants.Con, declared.node.Node.TheVariants.Var, declared.node.Node.TheVariants.Arr, declared.node.Node.TheVariants.Thunk, declared.node.Node.TheVariants.Weak, declared.node.Node.TheVariants.Stack}
 use Rattle.nmgc_world_laws.specs.Holds.{has_result}

@@ -1,8 +1,7 @@
 //! Events, and entries of the mark queue.
 use nmgc_world_spec::{Command, Name, Reply};
 
-/// A single step while marking runs. Events come in any order: the mutators give commands and hand over the names that they
-/// owe, and the collector scans and takes.
+/// A single step of a mutator or the collector while marking runs. Events come in any order.
 pub enum Event {
     /// A mutator gave a command, and this was the answer. From then on the mutator owes the names in `owed_by`, such as the
     /// old target of a field that was overwritten.
@@ -42,10 +41,8 @@ impl Drop for Event {
     }
 }
 
-/// An entry of the mark queue: a marked name, and the position that is read next.
-///
-/// Position 0 is the header, and position i + 1 is field i. The result of a thunk is its field 0,
-/// and its free variables follow.
+/// An entry of the mark queue: a marked name, and the position that is read next. Position 0 is the header, and position i +
+/// 1 is field i. A thunk's result is its field 0, and its free variables follow.
 #[derive(Clone, Copy, Debug, PartialEq, Eq)]
 pub struct Entry {
     pub name: Name,

@@ -7,9 +7,9 @@
 //! events do them in some order, so a law of every list of events is a law of every run of the threads.
 //!
 //! The snapshot theorem (`laws`): until the closing, only names that are live in the snapshot are marked. The closing
-//! completes the marks to exactly the live names, and then to exactly the kept names. The world is always the replay of the
-//! commands that happened, so marking disturbs no mutator. `Facts` is the invariant. The machine as code is in `nmgc_core`,
-//! and the head of its `core_machine` explains the argument at length.
+//! completes the marks to exactly the live names, and then to exactly the kept names. Until the closing the world is the
+//! replay of the commands that happened, so marking disturbs no mutator. `Facts` is the invariant. The machine as code is in
+//! `nmgc_core`, and the head of its `core_machine` explains the argument at length.
 #![tactic(auto)]
 
 pub mod event;

@@ -9,8 +9,7 @@ pub record Placing : Type 0 where
   pub class : ℕ
   pub words : ℕ
 
--- one object is placed by the placing rule, for its maker and the least class whose blocks are large enough. It has at least
--- two words, and at most the words of a segment
+-- one object, of two words up to a segment's words, is placed by the placing rule for its maker and its least fitting class
 pub record AllocatesOne (s new : Segments) (p : Placing) : Type 0 where
   pub at : ℕ
   pub allocates : Allocates s new p.maker p.class at

@@ -1,5 +1,4 @@
-//! The laws of blocks in use, and of the fields that words show.
-//!
+//! The laws of blocks in use, of the strong fields that words show, and of the reserve, and a sample of a heap at a stop.
 //! Each function here does nothing; its contract is the law.
 ghost use Rattle.std.specs.Prelude.{ℕ, ◌≡◌, ◌+◌, ◌*◌, ◌<◌, ◌≤◌, ◌⊎◌, List, Contains};
 ghost use Rattle.nmgc_world_spec.specs.{declared.value.Name.Name, declared.value.Value.TheVariants.Ref, declared.node.Node.Node, World.World, World.IsWorld, World.node_of, Reach.RefersTo, Reach.strong_fields};
@@ -19,8 +18,9 @@ pub fn blocks_lie_apart()
     ensures below { (s : Segments) (at size : ℕ) → IsSegments s → IsOccupied s at size → at + size ≤ nursery_place s.layout 0 }
 {}
 
-/// Proves that the words of a tracked object show the strong references of its node, and no others. Each pointer in a strong
-/// field leads to an object to which the node refers. Each object to which a strong field refers has a pointer there.
+/// Proves that the words of a tracked object show exactly the strong references of its node, if words represent a world
+/// between rounds. Each pointer in a strong field of the words leads to an object to which the node refers. If a strong field
+/// of the node refers to an object at an address, a strong field of the words points to this address.
 pub fn fields_are_shown()
     ensures sound { (layout : Layout) (earlier : List World) (places : List Place) (w : World) (words : List ℕ) → IsWorld w →
         Represents layout earlier NoNode places w words → (name : Name) (node : Node) (at to : ℕ) → IsTracked w earlier name →
@@ -47,15 +47,16 @@ pub fn placing_takes_a_new_block()
     ensures marks { (s new : Segments) (m c at : ℕ) → IsSegments s → IsSegments new → Allocates s new m c at → KeepsMarks s new }
 {}
 
-/// Proves that all nursery objects find room if at least as many segments are free as the reserve. Suppose that objects are
-/// placed one after the other, with at most the nurseries' words in all. Then each mutator still has room for another object
-/// of each class. The reason: objects fill at least half of the words of each free segment that becomes filled, counting the
-/// words left over after its last block. Besides filled segments, a mutator has at most one begun segment of each class.
+/// Proves that all nursery objects find room if at least as many segments were free as the reserve (`reserve_count`). Suppose
+/// that objects were then placed (`AllocatesAll`), with at most the nurseries' words in all. Then each mutator still has room
+/// for an object of each class. The reason: once a free segment is filled, its objects together take at least half of its
+/// words, even with words left after its last block. Besides filled segments, a mutator has at most one begun segment of each
+/// class.
 pub fn reserve_suffices()
     ensures { ReserveSuffices }
 {}
 
-/// Proves that a sample's words represent a heap at a stop with one new object, so such heaps exist.
+/// Proves that a sample's free segments and words (`HoldsYoung`) are a heap at a stop (`IsStopped`) with one new object.
 pub fn a_stop_may_have_a_new_object()
     ensures { OneYoung }
 {}

@@ -26,8 +26,8 @@ AreKeptMarked c allocation segments epoch = (number block : ℕ) (name : Name) �
     LiesIn allocation number block name → IsMarked (nth segments.segments number) epoch block ↔ IsKeptIn c name
 
 -- a name listed so far: when the cycle began, it lay in a segment that has been swept since
-abbrev pub IsHadSoFar : Cycle → AllocState → Name → Type 0
-IsHadSoFar c allocation name = (number block : ℕ) × IsSweptIn c number × (IsIn stands.Sweeping (cells allocation number) → ⊥) × LiesIn c.heap number block name
+abbrev pub IsListedSoFar : Cycle → AllocState → Name → Type 0
+IsListedSoFar c allocation name = (number block : ℕ) × IsSweptIn c number × (IsIn stands.Sweeping (cells allocation number) → ⊥) × LiesIn c.heap number block name
 
 -- a name freed so far: when the cycle began, it lay in a segment that has been swept since, and the cycle doesn't keep it
 abbrev pub IsFreedSoFar : Cycle → AllocState → Name → Type 0
@@ -44,7 +44,7 @@ pub record IsSweeping (c : Cycle) (closed : ℕ) (allocation : AllocState) (segm
   pub noted : HasNoted c sweeper
   pub as_noted : AreAsNoted c allocation
   pub marked : AreKeptMarked c allocation segments sweeper.epoch
-  pub had : (name : Name) → Contains sweeper.had name ↔ IsHadSoFar c allocation name
+  pub had : (name : Name) → Contains sweeper.had name ↔ IsListedSoFar c allocation name
   pub had_once : IsWithoutDoubles sweeper.had
   pub freed : (name : Name) → Contains sweeper.freed name ↔ IsFreedSoFar c allocation name
   pub freed_once : IsWithoutDoubles sweeper.freed

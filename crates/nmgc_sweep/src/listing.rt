@@ -1,7 +1,5 @@
-//! The names in a segment that is about to be swept: all of them, and the names that the sweep frees.
-//!
-//! Only before the sweep is it known which blocks are in use and which are marked. The sweep clears the marks and leaves in
-//! use exactly the blocks marked with its epoch.
+//! The names in a segment that is about to be swept: all of them, and the names that the sweep frees. Only before the sweep
+//! is it known which blocks in use aren't marked with its epoch: it frees these blocks.
 ghost use Rattle.std.specs.Prelude.{◌+◌, ◌*◌, ◌≤◌};
 ghost use Rattle.nmgc_object.specs.declared.size.TheConstants.{MIN_BLOCK_WORDS as LEAST};
 ghost use Rattle.nmgc_segment.specs.{Marks.IsEpoch, Segment.InUse, Segment.block_count};
@@ -13,8 +11,9 @@ use nmgc_alloc::Segments;
 use nmgc_name_lists::NameRoom;
 use nmgc_object::{Address, block_words};
 
-/// Adds the names of all blocks in use of a waiting segment to `had`, and the names of those not marked with the epoch to
-/// `freed`. Both lists need room for all blocks that a segment may have. Takes time proportional to the segment's blocks.
+/// Adds to `had` the names that `names` has for the blocks in use of a waiting segment. Adds to `freed` the names of the
+/// blocks among them that aren't marked with the epoch. Requires an entry for each block, and room in both lists for a
+/// segment's blocks. Takes time proportional to the number of blocks.
 pub(crate) fn list_segment(
     names: &NameTable,
     segments: &Segments,
@@ -44,7 +43,7 @@ pub(crate) fn list_segment(
     let blocks = segment.blocks();
     for block in 0..blocks {
         if segment.in_use(block) {
-            let name = names.at(Address(base + block * size));
+            let name = names.name_at(Address(base + block * size));
             had.add(name);
             if !segment.is_marked(block, epoch) {
                 freed.add(name);

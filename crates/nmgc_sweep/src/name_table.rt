@@ -3,8 +3,7 @@
 //! In a round the words belong to the mutators, so a sweep beside them can't read names in the words. Reading all names at a
 //! stop takes time that grows with the heap. So a stop notes the name of each moved object, at an entry for its new address,
 //! and the sweeper reads the entries. Nothing is placed in a waiting segment, so its entries stay from its cycle's beginning.
-//!
-//! An entry of a swept block has no meaning: only the segment says which blocks are free. The next object rewrites the entry.
+//! An entry of a free block has no meaning: the segment says which blocks are free. The next object rewrites the entry.
 //!
 //! Easy to get wrong: an entry depends on a block's address, not on its number, since segments change their class. Every
 //! block has at least the words of an entry, so no two blocks share an entry.
@@ -41,8 +40,8 @@ fn entry_of(at: Address) -> u32
 }
 
 impl NameTable {
-    /// Makes a table with an entry for each block that a segment of the layout may have. Takes memory once. Its size depends
-    /// only on the layout, not on the number of objects.
+    /// Makes a table with an entry for each block that a segment of the layout may have. The table takes all its memory here.
+    /// The amount depends only on the layout, not on the number of objects.
     pub fn new(alloc: Global, layout: Layout) -> Result<NameTable, NoMemory>
         requires { IsLayout layout }
         ensures { IfOk result (λ names. HaveEntries layout names) }
@@ -53,7 +52,7 @@ impl NameTable {
         })
     }
 
-    /// Notes the name of the object that moved to this address. Constant time.
+    /// Writes `name` into the entry of the address `at`, to which its object moved. The entry must exist. Constant time.
     pub fn note(&mut self, at: Address, name: Name)
         requires { entry_of at.0 < length self.old }
         ensures { self.new ≡ slice_set self.old (entry_of at.0) name }
@@ -62,8 +61,8 @@ impl NameTable {
         self.entries[entry as usize] = name;
     }
 
-    /// Returns the name noted last for this address. Constant time.
-    pub fn at(&self, at: Address) -> Name
+    /// Returns the name in the entry of the address `at`. The entry has to exist. Constant time.
+    pub fn name_at(&self, at: Address) -> Name
         requires { entry_of at.0 < length self.now }
         ensures { slice_get self.now (entry_of at.0) ≡ Some result }
     {

@@ -2,18 +2,15 @@
 //!
 //! The waiting segments are exactly the segments that this sweeper noted and hasn't swept, in the same order. Each name is
 //! judged once, before its segment's sweep: the sweep leaves in use exactly the blocks that are marked with this cycle's
-//! epoch. So a call lists the names in all segments that it is to sweep, and then sweeps them in two halves, each in its own
-//! thread. No sweep touches the marks of another segment.
+//! epoch. So a call lists the names in all segments that it will sweep. Then it sweeps them in two halves, in two threads if
+//! a thread can be started. Each half passes the gate under its own number, so the sweeper has two counts. The lower half
+//! continues the marker's count. The upper half continues the count of the upper halves before it.
 //!
 //! Room for all names is taken at the start, so that sweeping beside the mutators takes no memory. Reserved memory isn't
 //! touched, and the start takes time only for the number of segments. The room suffices even if no two names are consecutive.
-//! Mostly they are, and the lists are a few spans (`nmgc_name_lists`).
-//!
-//! Each half passes the gate under its own number, so the sweeper has two counts. The lower half continues the marker's
-//! count. The upper half continues the count of the upper halves before it.
 //!
 //! Easy to get wrong: the names had and freed are in the order of their blocks, and several makers' segments alternate. So
-//! the sweeper's lists aren't in order of names; a cycle's row in a report is.
+//! the sweeper's lists aren't in order of names. A report puts them in order in the cycle's row.
 ghost use Rattle.std.specs.Prelude.{ℕ, ◌≡◌, ◌≢◌, ◌-◌, ◌/◌, ◌<◌, ◌≤◌, [], length, min, IsTrue, IfOk, ◌↔◌};
 ghost use Rattle.nmgc_segment.specs.Marks.{IsEpoch};
 ghost use Rattle.nmgc_alloc.specs.{Halves.IsInHalf, Segments.IsWaiting};
@@ -47,15 +44,15 @@ pub struct SweepWork {
 pub struct Census {
     /// The numbers of the segments noted at the snapshot, in order.
     pub swept: Vec<u32>,
-    /// The names of the blocks in use in these segments at the snapshot.
+    /// The names listed in the swept segments among these. Once all are swept, they are the names of the blocks in use there
+    /// at the snapshot.
     pub had: NameList,
     /// The names among `had` that were freed.
     pub freed: NameList,
 }
 
 /// The sweeper of a cycle. Contracts see its epoch, the segments that it noted, the names in the segments that it swept and
-/// the freed names among them. They also see the segments that it hasn't swept, the number of names that it has room for in
-/// each, and how often the gate was passed.
+/// the freed names among them. They also see its unswept segments, its room for names in each, and its counts of the gate.
 #[derive(Drop)]
 pub struct Sweeper {
     /// How often the collector passed the gate as `MAKERS` in the whole run. The count stops at 2^64 - 1.
@@ -109,9 +106,9 @@ fn add_passes(turns: u64, passes: u32) -> u64
 }
 
 impl Sweeper {
-    /// Makes the sweeper of a cycle that begins, just after `Segments::prepare`: it notes the segments to be swept. It takes
-    /// room for their names and for the names that will be freed. A sweeper needs no further memory. Its `turns` and
-    /// `upper_turns` are 0. Takes time proportional to the number of segments.
+    /// Makes the sweeper of a cycle that begins. The sweeper notes all waiting segments (after `Segments::prepare`, the
+    /// segments that the cycle sweeps). It takes room for all names in them and for all names that will be freed, and needs
+    /// no further memory. Its `turns` and `upper_turns` are 0. Takes time proportional to the number of segments.
     pub fn start(alloc: Global, segments: &Segments, epoch: u8) -> Result<Sweeper, NoMemory>
         requires epoch { IsEpoch epoch }
         ensures begun { IfOk result (λ sweeper. HasBegun segments.now epoch sweeper) }
@@ -136,21 +133,22 @@ impl Sweeper {
         })
     }
 
-    /// Returns the numbers of the segments noted at the snapshot, in order. Takes no memory.
+    /// Returns the numbers of the segments noted at the snapshot, in order. Some of them may not be swept yet. Takes no
+    /// memory.
     pub fn swept(&self) -> &[u32]
         ensures { result.now ≡ self.now.seen.swept }
     {
         self.noted.as_slice()
     }
 
-    /// Returns the names of blocks that were in use at the snapshot, in the segments swept so far. They are in no order.
+    /// Returns the names listed in the segments that were swept so far, as spans, in no order.
     pub fn had(&self) -> &[Span]
         ensures { names_in result.now ≡ self.now.seen.had }
     {
         self.had.spans()
     }
 
-    /// Returns the names freed so far, in no order.
+    /// Returns the names freed so far, as spans, in no order.
     pub fn freed(&self) -> &[Span]
         ensures { names_in result.now ≡ self.now.seen.freed }
     {
@@ -158,8 +156,8 @@ impl Sweeper {
     }
 
     /// Turns the sweeper into its part of the census: the segments noted at the snapshot, the names listed in the segments
-    /// that it swept, and the freed names among them. The spare room of both lists of names is given back. Needs no memory;
-    /// takes some, if there is any, to copy short lists.
+    /// that it swept, and the freed names among them. The call can't fail. A list of few spans is copied, and the spare room
+    /// of both lists of names is given back, each only if memory suffices.
     pub fn into_census(self) -> Census
         ensures swept { result.swept.items ≡ self.seen.swept }
         ensures had { result.had ≡ self.seen.had }
@@ -187,7 +185,7 @@ impl Sweeper {
         self.done < self.noted.len()
     }
 
-    // Lists the names in the first unswept segment, and the names that a sweep of it frees.
+    // Lists the names in the first unswept segment, and the names that a sweep of it frees. The segment then counts as swept.
     fn list_next(&mut self, segments: &Segments, names: &NameTable)
         requires can { CanList segments.now self.old }
         requires some { self.old.left ≢ [] }
@@ -206,7 +204,7 @@ impl Sweeper {
         self.done += 1;
     }
 
-    // Lists the names in the first `count` unswept segments, and the names that a sweep of these segments frees.
+    // Lists the names in the first `count` unswept segments, one segment after the other, as `list_next` does.
     fn list_first(&mut self, segments: &Segments, names: &NameTable, count: u32)
         requires can { CanList segments.now self.old }
         requires enough { count ≤ length self.old.left }
@@ -219,7 +217,8 @@ impl Sweeper {
     }
 
     // Sweeps the first `quota` waiting segments, or all if there are fewer, and returns their number. First it lists the
-    // names in these segments, and the names that are freed. Before each sweep it calls `before` with half and position.
+    // names in these segments, and the freed names. Before each sweep it calls `before` with the segment's half and the
+    // segment's position in that half.
     fn sweep_some<R: Threads + Sync, F: Fn(u8, u32) + Sync>(
         &mut self,
         rt: &R,
@@ -241,15 +240,17 @@ impl Sweeper {
         segments.sweep_many(rt, self.epoch, count, before)
     }
 
-    /// Sweeps at most `quota` segments beside the mutators, after the cycle is closed, and returns their number and whether
-    /// none is left. It sweeps the waiting segments of least number, in two halves, each in its own thread. For a single
-    /// segment no thread starts. Before each sweep the gate is passed, as `MAKERS` in the lower half and as `MAKERS + 1` in
-    /// the upper half. If the number is odd, the lower half has one segment more. The clauses `turns` and `upper_turns` give
-    /// the counts. If `names` has the names of blocks, the names in these segments are listed before, and the freed names.
-    /// For any marks, the freed names are exactly the names of the segments' blocks in use that aren't marked with the epoch.
+    /// Sweeps the first `quota` waiting segments, or all if there are fewer, beside the mutators. Returns their number, and
+    /// whether none is left. First it lists the names that `names` has for the blocks in use in these segments. The freed
+    /// names are the listed names of blocks that aren't marked with the epoch (clause `judged`, for any marks). It sweeps in
+    /// two halves: the lower in the calling thread, the upper in a thread of its own, or after the lower if no thread can be
+    /// started. For a single segment no thread starts. If the number is odd, the lower half has one segment more. Before each
+    /// sweep the gate is passed, as `MAKERS` in the lower half and as `MAKERS + 1` in the upper half. The clauses `turns` and
+    /// `upper_turns` give the counts.
     ///
-    /// `swept` is the lesser of `quota` and the number of waiting segments. `finished` is true exactly if none is left. The
-    /// waiting segments are those that this sweeper noted and hasn't swept. Takes no memory, and waits only at the gate.
+    /// Requires that the waiting segments are exactly the sweeper's unswept segments, with room for their names (`AreLeft`),
+    /// and that `names` has an entry for each block. If the entries are the blocks' names, a sweeper at work in a closed
+    /// cycle stays at work (clause `swept`). Takes no memory, and waits only at the gate.
     pub fn work<R: Threads + Sync, G: Gate>(
         &mut self,
         rt: &R,
@@ -288,7 +289,7 @@ impl Sweeper {
         }
     }
 
-    /// Sweeps all segments that are left, in two halves, with the mutators stopped. The gate isn't passed; its counts stay.
+    /// Sweeps all segments that are left, at a stop, as `work` does. The gate isn't passed, and its counts stay.
     pub fn finish<R: Threads + Sync>(&mut self, rt: &R, segments: &mut Segments, names: &NameTable)
         requires left { AreLeft segments.old self.old }
         requires entries { HaveEntries segments.old.layout names.now }

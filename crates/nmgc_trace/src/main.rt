@@ -16,7 +16,7 @@
 //! - 64: no trace is named, or an argument is no text.
 //! - 7: there was no memory.
 //! - 3: a file can't be read.
-//! - 2: a trace has a line that can't happen, no end of a cycle (format 2: and a `stop` after it), or 2^64 - 2 lines or more.
+//! - 2: a trace has a line that can't happen, no end of a cycle (or, in format 2, no `stop` after it), or 2^64 - 2 lines or more.
 //! - 0: each trace passed.
 #![tactic(auto)]
 
@@ -46,7 +46,7 @@ enum Status {
 
 impl Status {
     // Returns the exit code of the process for this status.
-    fn number(self) -> u8 {
+    fn exit_code(self) -> u8 {
         match self {
             Status::Passed => 0,
             Status::Unwritten => 1,
@@ -67,14 +67,15 @@ fn main(rt: HostRuntime) -> ExitCode {
             Status::Unwritten
         }
     };
-    ExitCode::from(status.number())
+    ExitCode::from(status.exit_code())
 }
 
-// Prints the result for each argument, and returns the gravest status. An error means that something couldn't be written.
+// Checks the trace of each argument, prints the results, and returns the gravest status. Without arguments that can be read,
+// it prints the usage or `no memory`. An error means that something couldn't be written.
 fn check_all(rt: &HostRuntime) -> io::Result<Status> {
     let words = match env::args(rt) {
         Ok(words) => words,
-        Err(error) => return print_no_arguments(rt, error.kind()),
+        Err(error) => return print_argument_fault(rt, error.kind()),
     };
     let mut gravest = None;
     for word in words.skip(1) {
@@ -87,8 +88,8 @@ fn check_all(rt: &HostRuntime) -> io::Result<Status> {
     }
 }
 
-// Prints why the arguments can't be read, and returns the status: there was no memory, or an argument is no text.
-fn print_no_arguments(rt: &HostRuntime, kind: io::ErrorKind) -> io::Result<Status> {
+// Prints `no memory` if there was no memory for the arguments, and otherwise the usage. Returns the status.
+fn print_argument_fault(rt: &HostRuntime, kind: io::ErrorKind) -> io::Result<Status> {
     if kind == io::ErrorKind::OutOfMemory {
         println!(rt; "no memory")?;
         return Ok(Status::NoMemory);
@@ -132,7 +133,8 @@ fn check(rt: &HostRuntime, name: &str) -> io::Result<Status> {
     }
 }
 
-// Checks the trace that an argument names, and returns the outcome.
+// Checks the trace that an argument names, and returns the outcome. `-` and `--live` name standard input. With `--live`, `ok`
+// answers empty lines of format 2.
 fn check_argument(rt: &HostRuntime, name: &str) -> Result<Outcome, TraceFault> {
     let is_live = name == LIVE;
     if is_live || name == "-" {

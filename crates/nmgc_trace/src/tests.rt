@@ -1,4 +1,4 @@
-//! Lists of lines, which no program judges, and streams that fail. `examples/traces` and `examples/rows` test the output.
+//! Tests of the calls that judge a list of lines, which no program makes, and of streams that fail.
 use nmgc_trace_checker::{
     Line, Meaning, Report, TraceFault, judge, judge_lines, line_of, meaning_of, outcome_of,
 };
@@ -45,7 +45,7 @@ fn meanings_in(alloc: Global, text: &str) -> Result<Vec<Meaning>, Fail> {
     Ok(lines)
 }
 
-// Returns the verdict on the lines of a text of format 1, spelled as text.
+// Returns the text of the verdict on the lines of a text of format 1.
 fn verdict_on(alloc: Global, text: &str) -> Result<String, Fail> {
     let lines = lines_in(alloc, text)?;
     let verdict = judge(alloc, lines.as_slice())?;
@@ -58,8 +58,9 @@ fn report_on(alloc: Global, text: &str) -> Result<Report, Fail> {
     Ok(judge_lines(alloc, lines.as_slice())?)
 }
 
+// Checks that the verdict lists exactly the kept names, if all lines of format 1 can happen and the last line is a close.
 #[test]
-fn lists_of_the_machine_are_judged(rt: HostRuntime) -> Result<(), Fail> {
+fn machine_lines_are_judged(rt: HostRuntime) -> Result<(), Fail> {
     let whole = verdict_on(rt.alloc(), MACHINE)?;
     assert!(rt; whole.as_str() == "closed, kept 0.0 g");
     let empty = verdict_on(rt.alloc(), "mutators 1\nmark\nclose\n")?;
@@ -67,8 +68,9 @@ fn lists_of_the_machine_are_judged(rt: HostRuntime) -> Result<(), Fail> {
     Ok(())
 }
 
+// Checks that lines of format 2 are refused at `close` if a name still has to be pushed, and that a whole cycle passes.
 #[test]
-fn lists_of_a_barrier_are_judged(rt: HostRuntime) -> Result<(), Fail> {
+fn watched_lines_are_judged(rt: HostRuntime) -> Result<(), Fail> {
     let due = report_on(rt.alloc(), WATCHED)?;
     assert!(rt; matches!(&due, Report::Refused(7, _)) && !due.is_whole());
     let whole = report_on(rt.alloc(), "mutators 1\nmark\nclose\nstop\n")?;

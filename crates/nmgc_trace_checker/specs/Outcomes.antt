@@ -1,7 +1,5 @@
--- The result for a trace that is read line by line.
---
--- Some readers show contracts their bytes, such as a slice in memory. Then the judged lines are the lines of these bytes. A
--- file or a pipe shows none, so no contract says which lines were read from it; the same code reads them.
+-- The result for a trace that is read line by line. Some readers show contracts their bytes, such as a slice in memory. Then
+-- the judged lines are the lines of these bytes. A file or a pipe shows none, but the same code reads them.
 use Rattle.std.specs.Prelude.{◌≡◌, ◌≢◌, ◌≤◌, ◌-◌, ◌^◌, ℕ, List, [], ◌∷◌, length, codes, Option, Bool, true, false, IfSome}
 use Rattle.std.specs.{IoError.error_kind, declared.io.ErrorKind.TheVariants.OutOfMemory}
 use Rattle.nmgc_trace_checker.specs.{declared.line.Line.Line, declared.meaning.Meaning.Meaning, declared.reading.Outcome.Outcome, declared.reading.TraceFault.TraceFault, declared.report.Report.Report, declared.checker.Answer.Answer, declared.verdict.Verdict.Verdict, Kept.ListsKept, Reports.IsReport, Reports.is_whole, Said.texts_of, Said.ahead, Said.AreSaid, Said.Says, Said.SaysLine, Verdicts.IsVerdict, Verdicts.is_passed, Whole.IsWholeReport}

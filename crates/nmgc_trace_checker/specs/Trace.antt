@@ -1,6 +1,5 @@
--- When a line of a trace of format 1 can happen: by the marking machine alone.
---
--- The commands before `mark` build a world; from then on each line is an event of the marking machine.
+-- When a line of a trace of format 1 can happen, by the marking machine alone. The commands before `mark` build a world; from
+-- then on each line is an event of the marking machine.
 use Rattle.std.specs.Prelude.{◌≡◌, ◌≤◌, ◌↔◌, ◌⊎◌, ◌-◌, ◌^◌, ℕ, zero, suc, List, [], ◌∷◌, Option, Some, None, Result, Ok, Err, Bool, true, false, Contains}
 use Rattle.nmgc_lists.specs.declared.memory.NoMemory.{NoMemory}
 use Rattle.nmgc_world_spec.specs.{declared.value.Name.Name, World.World, World.new_world, Step.CanApply, Step.step}
@@ -89,8 +88,7 @@ Comes p (l ∷ ls) last = (next : Progress) × Can p l next × Comes next ls las
 
 -- RESULTS OF TESTS: true with the step that was done, and false if none could be done
 
--- the result of a test whether an event can happen before marking: true with the world `next` after it, or false if no world
--- can be after it
+-- the result of a test whether an event can happen before marking: true with the world `next` after it, or false if it can't
 abbrev pub IsAnsweredIf : World → Event → Bool → World → Type 0
 IsAnsweredIf w e true next = IsAnswered w e next
 IsAnsweredIf w e false next = (other : World) → IsAnswered w e other → ⊥

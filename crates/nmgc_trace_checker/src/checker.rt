@@ -1,7 +1,6 @@
-//! The state of a trace of format 2 as its lines come.
-//!
-//! A line is judged as it comes, and only its effect is kept. Its text is kept if it made a name due in this cycle
-//! that its mutator didn't owe before: at most one text for each name and mutator. A refusal may report this text.
+//! The state of a trace of format 2 as its lines come. A line is judged as it comes, and its effect is kept. Its text is kept
+//! if a later refusal may report it: it made a name due that wasn't pushed and hadn't come due by its mutator before in this
+//! cycle. So there is at most one text for each name and mutator.
 ghost use Rattle.std.specs.Prelude.{◌≡◌, None, IfOk, OnOk};
 ghost use Rattle.nmgc_trace_checker.specs.{Reports.IsHappening, Reports.report_of, Said.Says, declared.meaning.Meaning.Meaning as MeaningAt};
 ghost use Rattle.nmgc_trace_checker.specs.declared.report.Begun.TheVariants as begun;
@@ -9,7 +8,7 @@ ghost use Rattle.nmgc_trace_checker.specs.declared.report.Report.TheVariants as 
 
 use crate::counts::Counts;
 use crate::meaning::{Meaning, meaning_of};
-use crate::report::{Begun, Refusal, Report, happen, report_of};
+use crate::report::{Begun, Refusal, Report, do_line, report_of};
 use crate::sentence::write_refusal;
 use nmgc_barrier_checker::Why;
 use nmgc_lists::NoMemory;
@@ -53,10 +52,10 @@ impl TraceChecker {
         }
     }
 
-    /// Judges the next line, by this number and text (without its end). Returns `None` if it happened, or the reason why it
-    /// is refused; then `refusal_answer` gives the answer. After a refusal or `NoMemory` the checker may be in any state.
-    /// Takes the time and memory of `Watch::step`, and memory for the text.
-    pub fn line(
+    /// Judges the next line, by its number and its text without its end. Returns `None` if the line can happen, and otherwise
+    /// the reason, for `refusal_answer`. After a refusal or `NoMemory` the checker may be in any state. Takes the time and
+    /// memory of `Watch::step`, and memory for the text.
+    pub fn judge_line(
         &mut self,
         alloc: Global,
         number: usize,
@@ -65,7 +64,7 @@ impl TraceChecker {
         ensures { IfOk result (λ refused. (meaning : MeaningAt) × Says text.now meaning × IsHappening number self.old.begun meaning refused self.new.begun) }
     {
         let meaning = meaning_of(alloc, text)?;
-        let refused = happen(&mut self.begun, alloc, number, &meaning)?;
+        let refused = do_line(&mut self.begun, alloc, number, &meaning)?;
         if let Some(refusal) = refused {
             return Ok(Some(refusal));
         }
@@ -73,7 +72,7 @@ impl TraceChecker {
         Ok(None)
     }
 
-    // Counts a line that happened, and keeps its text if it made a name due.
+    // Counts a line that happened, and keeps its text if it may be reported. Drops all texts first, if the cycle has no dues.
     fn note(
         &mut self,
         alloc: Global,
@@ -112,7 +111,7 @@ impl TraceChecker {
         }
     }
 
-    /// Returns the answer to a trace whose line `number` was refused for this reason. Takes memory for the text.
+    /// Returns the answer to a trace whose line `number` was refused for this reason. Takes memory for a due line's text.
     pub fn refusal_answer(
         self,
         alloc: Global,
@@ -131,7 +130,7 @@ impl TraceChecker {
         })
     }
 
-    // If the refusal is for a name that is due, returns the text of the line that made it due, if that text was kept.
+    // Returns the text of the line since which a name is due, if the refusal is about such a name and the text was kept.
     fn due_line_text(&self, alloc: Global, refusal: Refusal) -> Result<Option<String>, NoMemory> {
         let Refusal::Event(Why::Due(debt)) = refusal else {
             return Ok(None);
@@ -145,7 +144,7 @@ impl TraceChecker {
     }
 }
 
-// Returns how often a name came due so far in the cycle that goes on, or in the last cycle.
+// Returns the number of dues of the cycle that goes on, or of the last cycle; 0 without a cycle or after the stop.
 fn dues_of(begun: &Begun) -> u64 {
     match begun {
         Begun::Nothing => 0,
@@ -157,10 +156,11 @@ fn dues_of(begun: &Begun) -> u64 {
 fn may_be_reported(begun: &Begun, number: usize) -> bool {
     match begun {
         Begun::Nothing => false,
-        Begun::Watching(watch) => watch.is_owed_since(number),
+        Begun::Watching(watch) => watch.has_new_debt_of_line(number),
     }
 }
 
+// Writes the answer as the program prints it, in one line without its end.
 impl fmt::Display for Answer {
     fn fmt<W: fmt::Write>(&self, f: &mut fmt::Formatter<W>) -> fmt::Result {
         match self.report {

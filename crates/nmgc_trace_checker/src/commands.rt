@@ -1,7 +1,7 @@
 //! Commands of a mutator with their answers, as both formats spell them.
 //!
-//! A command is spelled as in a script, so `nmgc_script` reads it, as the only command of a script. Its `parse` promises both
-//! ways, so this needs no change there. Values are spelled as in a report, so `nmgc_journal` reads them.
+//! A command is spelled as in a script. So `parse` of `nmgc_script`, whose contract says which texts are scripts, reads it as
+//! the only command of a script. Values are spelled as in a report, so `nmgc_journal` reads them.
 //!
 //! Easy to get wrong: a line feed within a command would make two lines of that script, so such a command is refused.
 ghost use Rattle.std.specs.Prelude.{◌≡◌, ◌↔◌, ◌≤◌, ◌^◌, ◌++◌, ◌∷◌, [], map, codes, length, None, Some, Contains, IsTrue, IfSome, IfNone, IfOk, OnOk};
@@ -19,7 +19,8 @@ use std::alloc::Global;
 // The length in bytes of the longest script that is tried. Every command of a script fits, with the lines before it.
 const LONGEST: usize = 131072;
 
-/// Splits the tokens of a line into a mutator, the tokens of its command, and the answer. Takes no memory.
+/// Returns the parts of a line's tokens: a mutator, the tokens of its command, and the answer after the sign `=`. Returns
+/// `None` for any other tokens. Takes no memory.
 #[tactic(auto, unfolding(crate::specs::Reading::parts_at))]
 pub(crate) fn parts<'w, 'a>(words: &'w [&'a [u8]]) -> Option<(u8, &'w [&'a [u8]], Reply)>
     ensures some { IfSome result (λ p. parts_at (map (λ w. w.now) words.now) ≡ Some (p.0, map (λ w. w.now) p.1.now, p.2)) }
@@ -29,13 +30,13 @@ pub(crate) fn parts<'w, 'a>(words: &'w [&'a [u8]]) -> Option<(u8, &'w [&'a [u8]]
         return None;
     };
     let mutator = byte(mutator)?;
-    let (command, answer) = answered(rest)?;
+    let (command, answer) = split_answer(rest)?;
     let answer = reply(answer)?;
     Some((mutator, command, answer))
 }
 
-// Splits tokens into the tokens of a command and the token of its answer after the sign `=`, or returns `None`.
-fn answered<'w, 'a>(words: &'w [&'a [u8]]) -> Option<(&'w [&'a [u8]], &'a [u8])>
+// Splits tokens into the tokens of a command and the token of its answer after the sign `=`. Returns `None` for other tokens.
+fn split_answer<'w, 'a>(words: &'w [&'a [u8]]) -> Option<(&'w [&'a [u8]], &'a [u8])>
     ensures some { IfSome result (λ p. answered_at (map (λ w. w.now) words.now) ≡ Some (map (λ w. w.now) p.0.now, p.1.now)) }
     ensures none { IfNone result (answered_at (map (λ w. w.now) words.now) ≡ None) }
 {
@@ -51,7 +52,7 @@ fn answered<'w, 'a>(words: &'w [&'a [u8]]) -> Option<(&'w [&'a [u8]], &'a [u8])>
     Some((command, *answer))
 }
 
-// Returns the answer that a token spells, or `None`.
+// Returns the answer that a token spells, by a keyword or as the value that is given, or `None` if it spells no answer.
 #[tactic(auto, unfolding(crate::specs::Reading::reply_at))]
 fn reply(word: &[u8]) -> Option<Reply>
     ensures { result ≡ reply_at word.now }
@@ -68,7 +69,7 @@ fn reply(word: &[u8]) -> Option<Reply>
     Some(Reply::Given(read_value(word)?))
 }
 
-// Returns the answer that a token spells, if it is the answer of a command that was done, or of a test.
+// Returns the answer that `ok`, `yes`, `no`, `updated` or `already` spells, and `None` for any other token.
 #[tactic(auto, unfolding(crate::specs::Reading::done_at))]
 fn done_answer(word: &[u8]) -> Option<Reply>
     ensures { result ≡ done_at word.now }
@@ -91,7 +92,7 @@ fn done_answer(word: &[u8]) -> Option<Reply>
     None
 }
 
-// Returns the answer that a token spells, if it is the answer of a command that can't be done.
+// Returns the answer that `nopointer`, `nofield`, `wrongkind`, `notowner` or `fixed` spells, and `None` for any other token.
 #[tactic(auto, unfolding(crate::specs::Reading::refused_at))]
 fn refused_answer(word: &[u8]) -> Option<Reply>
     ensures { result ≡ refused_at word.now }
@@ -114,7 +115,7 @@ fn refused_answer(word: &[u8]) -> Option<Reply>
     None
 }
 
-// Returns the answer that a token spells, if it says that nothing is given: `dead`, `none`, `stackfull` or `stackempty`.
+// Returns the answer that `dead`, `none`, `stackfull` or `stackempty` spells, and `None` for any other token.
 #[tactic(auto, unfolding(crate::specs::Reading::nothing_at))]
 fn empty_answer(word: &[u8]) -> Option<Reply>
     ensures { result ≡ nothing_at word.now }
@@ -138,13 +139,13 @@ fn empty_answer(word: &[u8]) -> Option<Reply>
 pub(crate) fn command(alloc: Global, words: &[&[u8]]) -> Result<Option<Command>, NoMemory>
     ensures { IfOk result (IsCommandIf (map (λ w. w.now) words.now)) }
 {
-    let line = joined(alloc, words)?;
+    let line = join_tokens(alloc, words)?;
     let command = command_of(alloc, line.as_slice())?;
     Ok(command)
 }
 
-// Returns the line of these tokens, with single spaces between.
-fn joined(alloc: Global, words: &[&[u8]]) -> Result<Vec<u8>, NoMemory>
+// Returns the line of these tokens, with single spaces between them.
+fn join_tokens(alloc: Global, words: &[&[u8]]) -> Result<Vec<u8>, NoMemory>
     ensures { IfOk result (λ line. line.items ≡ spaced (map (λ w. w.now) words.now)) }
 {
     let mut line = Vec::with_capacity(alloc, 64)?;
@@ -156,7 +157,7 @@ fn joined(alloc: Global, words: &[&[u8]]) -> Result<Vec<u8>, NoMemory>
     Ok(line)
 }
 
-// Appends tokens, each after a space.
+// Appends tokens to a line, each after a space.
 fn push_words(line: &mut Vec<u8>, words: &[&[u8]]) -> Result<(), NoMemory>
     ensures { OnOk result (line.new.items ≡ line.old.items ++ after_spaces (map (λ w. w.now) words.now)) }
 {
@@ -188,7 +189,7 @@ fn has_feed(line: &[u8]) -> bool
     line.contains(&b'\n')
 }
 
-// Returns the text of a script with this line as its only command.
+// Returns the text of a script whose only command is this line.
 fn script_of(alloc: Global, line: &[u8]) -> Result<Vec<u8>, NoMemory>
     ensures { IfOk result (λ text. text.items ≡ script_head ++ line.now ++ 10 ∷ []) }
 {
@@ -199,7 +200,8 @@ fn script_of(alloc: Global, line: &[u8]) -> Result<Vec<u8>, NoMemory>
     Ok(text)
 }
 
-// Returns the last command of a script that was read, or `None` if the script is bad.
+// Returns the last command of the script that `parse` read, or `None` if the script is bad or its last section has no
+// command. If `parse` found no memory, returns the error.
 fn command_in(alloc: Global, read: Result<Script, ScriptFault>) -> Result<Option<Command>, NoMemory>
     ensures { IsLastOf read result }
 {

@@ -1,6 +1,4 @@
-//! Counts of the lines of a trace.
-//!
-//! A trace may pass without a test: if no name came due, any barrier would pass. So names that come due are counted.
+//! Counts of a trace's lines. A trace may pass without a test: if no name came due, any barrier passes. So dues are counted.
 use crate::meaning::Meaning;
 use nmgc_barrier_checker::Event;
 use std::fmt;
@@ -14,7 +12,7 @@ pub struct Counts {
     pub commands: u64,
     /// Pushes, due or not.
     pub pushes: u64,
-    /// Names that came due, each as often as it came due. A name that a `finalise` opens counts twice, as opened and as kept.
+    /// Names that came due, each as often as it came due (`Cycle::dues`).
     pub dues: u64,
 }
 
@@ -53,6 +51,7 @@ impl Counts {
     }
 }
 
+// Writes the counts with their nouns, and whether anything came due.
 impl fmt::Display for Counts {
     fn fmt<W: fmt::Write>(&self, f: &mut fmt::Formatter<W>) -> fmt::Result {
         write_count(f, self.cycles, "cycle", ", ")?;

@@ -3,8 +3,7 @@
 //! - Format 1: `line` is the meaning of a line, `progress` the state of a trace, `verdict` the result. The marking machine
 //!   (`nmgc_core`) does the lines one by one, marker included.
 //! - Format 2: `meaning` is the meaning of a line, and `report` the result for a trace. `checker` finds it line by line, with
-//!   `counts` of the lines. The barrier is watched (`nmgc_barrier_checker`), cycle by cycle. The first line that can't happen
-//!   is reported with the reason, which `sentence` spells.
+//!   `counts` of the lines. The barrier is watched (`nmgc_barrier_checker`). `sentence` spells the reason of a refusal.
 //! - `reading`: a trace of either format, read line by line.
 //!
 //! The judge of each format is proved over lists of lines: a refused line is the first that can't happen, and the lines

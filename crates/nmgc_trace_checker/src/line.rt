@@ -31,7 +31,7 @@ pub enum Line {
     Unknown,
 }
 
-/// Returns the meaning of a line of format 1, given without its end: `Unknown` exactly if it has no other meaning.
+/// Returns the meaning of `text`, a line of format 1 without its end: `Unknown` exactly if it has no other meaning.
 pub fn line_of(alloc: Global, text: &str) -> Result<Line, NoMemory>
     ensures { IfOk result (SaysLine text.now) }
 {
@@ -75,7 +75,7 @@ fn keyword_line(words: &[&[u8]]) -> Option<Line>
     marker_line(word, rest)
 }
 
-// Returns the meaning of a line about the marker, or `None` for any other line.
+// Returns the meaning of a line that begins with `scan`, `take`, `close` or `drain`, or `None` for any other line.
 #[tactic(auto, unfolding(crate::specs::Reading::marker_line_at))]
 fn marker_line(word: &[u8], rest: &[&[u8]]) -> Option<Line>
     ensures { result ≡ marker_line_at word.now (map (λ w. w.now) rest.now) }
@@ -95,6 +95,7 @@ fn marker_line(word: &[u8], rest: &[&[u8]]) -> Option<Line>
     None
 }
 
+// Returns the line `Mutators` with the number that the one token after `mutators` spells, or `None` for any other tokens.
 #[tactic(auto, unfolding(crate::specs::Reading::count_line_at))]
 fn count_line(words: &[&[u8]]) -> Option<Line>
     ensures { result ≡ count_line_at (map (λ w. w.now) words.now) }
@@ -105,6 +106,7 @@ fn count_line(words: &[&[u8]]) -> Option<Line>
     Some(Line::Mutators(byte(count)?))
 }
 
+// Returns the line `mark` if no token follows this word, and otherwise `None`.
 #[tactic(auto, unfolding(crate::specs::Reading::mark_line_at))]
 fn mark_line(words: &[&[u8]]) -> Option<Line>
     ensures { result ≡ mark_line_at (map (λ w. w.now) words.now) }
@@ -115,6 +117,7 @@ fn mark_line(words: &[&[u8]]) -> Option<Line>
     Some(Line::Mark)
 }
 
+// Returns the push by the mutator whose number the one token after `push` spells, or `None` for any other tokens.
 #[tactic(auto, unfolding(crate::specs::Reading::push_line_at))]
 fn push_line(words: &[&[u8]]) -> Option<Line>
     ensures { result ≡ push_line_at (map (λ w. w.now) words.now) }
@@ -126,6 +129,7 @@ fn push_line(words: &[&[u8]]) -> Option<Line>
     Some(Line::Event(Event::Push { mutator }))
 }
 
+// Returns the line `scan` if no token follows this word, and otherwise `None`.
 #[tactic(auto, unfolding(crate::specs::Reading::scan_line_at))]
 fn scan_line(words: &[&[u8]]) -> Option<Line>
     ensures { result ≡ scan_line_at (map (λ w. w.now) words.now) }
@@ -136,6 +140,7 @@ fn scan_line(words: &[&[u8]]) -> Option<Line>
     Some(Line::Event(Event::Scan))
 }
 
+// Returns the take from a mutator that the tokens `M NAME` after `take` spell, or `None` for any other tokens.
 #[tactic(auto, unfolding(crate::specs::Reading::take_line_at))]
 fn take_line(words: &[&[u8]]) -> Option<Line>
     ensures { result ≡ take_line_at (map (λ w. w.now) words.now) }
@@ -148,6 +153,7 @@ fn take_line(words: &[&[u8]]) -> Option<Line>
     Some(Line::Take { mutator, name })
 }
 
+// Returns the line `close` if no token follows this word, and otherwise `None`.
 #[tactic(auto, unfolding(crate::specs::Reading::close_line_at))]
 fn close_line(words: &[&[u8]]) -> Option<Line>
     ensures { result ≡ close_line_at (map (λ w. w.now) words.now) }
@@ -158,6 +164,7 @@ fn close_line(words: &[&[u8]]) -> Option<Line>
     Some(Line::Event(Event::Close))
 }
 
+// Returns the line `drain` if no token follows this word, and otherwise `None`.
 #[tactic(auto, unfolding(crate::specs::Reading::drain_line_at))]
 fn drain_line(words: &[&[u8]]) -> Option<Line>
     ensures { result ≡ drain_line_at (map (λ w. w.now) words.now) }
@@ -168,7 +175,7 @@ fn drain_line(words: &[&[u8]]) -> Option<Line>
     Some(Line::Drain)
 }
 
-// Returns the meaning of a mutator's command with its answer. Any other tokens are no line of a trace.
+// Returns the meaning of a line with a mutator's command and its answer, or `Unknown` for any other tokens.
 fn mutator_line(alloc: Global, words: &[&[u8]]) -> Result<Line, NoMemory>
     ensures { IfOk result (IsLineGiven (parts_at (map (λ w. w.now) words.now))) }
 {

@@ -1,14 +1,12 @@
-//! The meaning of a line of format 2.
-//!
-//! Commands, answers and names are spelled as in format 1 (`line`). A push has its name. There is no marker: no line scans or
-//! drains, and a take only reports a name that the runtime's own marker took.
+//! The meaning of a line of format 2. Commands, answers and names are spelled as in format 1 (`line`). A push has the pushed
+//! name. There is no marker: no line scans or drains, and a take only reports a name that the runtime's own marker took.
 ghost use Rattle.std.specs.Prelude.{◌≡◌, map, IfOk};
 ghost use Rattle.nmgc_trace_checker.specs.Reading.{short_at, place_at, span_at, copying_of, copy_at, copying_at, fill_at, filling_at, rows_at, rows_if, mutators_at, mark_at, push_at, settle_at, take_at, close_at, marked_at, freed_at, stop_at, ending_at, plain_at, parts_at, IsMeaningBy, IsMeaningOfRow};
 ghost use Rattle.nmgc_trace_checker.specs.Said.{Says};
 
 use crate::commands::{command, parts};
 use crate::tokens::{byte, names, operand, pusher, register, short};
-use nmgc_barrier_checker::rows::{copied, filled};
+use nmgc_barrier_checker::rows::{copy_commands, fill_commands};
 use nmgc_barrier_checker::{Copying, Event, Filling};
 use nmgc_io::{cut_tokens, is_blank_or_comment};
 use nmgc_journal::read_name;
@@ -29,7 +27,7 @@ pub enum Meaning {
     Unknown,
 }
 
-/// Returns the meaning of a line of format 2, given without its end: `Unknown` exactly if it has no other meaning.
+/// Returns the meaning of `text`, a line of format 2 without its end: `Unknown` exactly if it has no other meaning.
 pub fn meaning_of(alloc: Global, text: &str) -> Result<Meaning, NoMemory>
     ensures { IfOk result (Says text.now) }
 {
@@ -80,7 +78,7 @@ fn keyword_meaning(alloc: Global, words: &[&[u8]]) -> Result<Option<Meaning>, No
     ending_meaning(alloc, word, rest)
 }
 
-// Returns the meaning of a line that ends a cycle or the trace, or reports on the last cycle; `None` for any other line.
+// Returns the meaning of a line that begins with `close`, `marked`, `freed` or `stop`, or `None` for any other line.
 #[tactic(auto, unfolding(crate::specs::Reading::ending_at))]
 fn ending_meaning(alloc: Global, word: &[u8], rest: &[&[u8]]) -> Result<Option<Meaning>, NoMemory>
     ensures { IfOk result (λ meaning. meaning ≡ ending_at word.now (map (λ w. w.now) rest.now)) }
@@ -100,6 +98,7 @@ fn ending_meaning(alloc: Global, word: &[u8], rest: &[&[u8]]) -> Result<Option<M
     Ok(None)
 }
 
+// Returns the meaning `Mutators` with the number that the one token after `mutators` spells, or `None` for any other tokens.
 #[tactic(auto, unfolding(crate::specs::Reading::mutators_at))]
 fn mutators_meaning(words: &[&[u8]]) -> Option<Meaning>
     ensures { result ≡ mutators_at (map (λ w. w.now) words.now) }
@@ -110,6 +109,7 @@ fn mutators_meaning(words: &[&[u8]]) -> Option<Meaning>
     Some(Meaning::Mutators(byte(count)?))
 }
 
+// Returns the event `Mark` if no token follows `mark`, and otherwise `None`.
 #[tactic(auto, unfolding(crate::specs::Reading::mark_at))]
 fn mark_meaning(words: &[&[u8]]) -> Option<Meaning>
     ensures { result ≡ mark_at (map (λ w. w.now) words.now) }
@@ -120,6 +120,7 @@ fn mark_meaning(words: &[&[u8]]) -> Option<Meaning>
     Some(Meaning::Event(Event::Mark))
 }
 
+// Returns the push that the tokens `WHO NAME` after `push` spell, or `None`. Only the name is in the event, not the pusher.
 #[tactic(auto, unfolding(crate::specs::Reading::push_at))]
 fn push_meaning(words: &[&[u8]]) -> Option<Meaning>
     ensures { result ≡ push_at (map (λ w. w.now) words.now) }
@@ -132,6 +133,7 @@ fn push_meaning(words: &[&[u8]]) -> Option<Meaning>
     Some(Meaning::Event(Event::Push { name }))
 }
 
+// Returns the settle of the mutator whose number the one token after `settle` spells, or `None` for any other tokens.
 #[tactic(auto, unfolding(crate::specs::Reading::settle_at))]
 fn settle_meaning(words: &[&[u8]]) -> Option<Meaning>
     ensures { result ≡ settle_at (map (λ w. w.now) words.now) }
@@ -143,6 +145,7 @@ fn settle_meaning(words: &[&[u8]]) -> Option<Meaning>
     Some(Meaning::Event(Event::Settle { mutator }))
 }
 
+// Returns the take of the name that the one token after `take` spells, or `None` for any other tokens.
 #[tactic(auto, unfolding(crate::specs::Reading::take_at))]
 fn take_meaning(words: &[&[u8]]) -> Option<Meaning>
     ensures { result ≡ take_at (map (λ w. w.now) words.now) }
@@ -154,6 +157,7 @@ fn take_meaning(words: &[&[u8]]) -> Option<Meaning>
     Some(Meaning::Event(Event::Take { name }))
 }
 
+// Returns the close that the tokens after `close` spell, or `None`. Without tokens, the close reports no deaths.
 #[tactic(auto, unfolding(crate::specs::Reading::close_at))]
 fn close_meaning(alloc: Global, words: &[&[u8]]) -> Result<Option<Meaning>, NoMemory>
     ensures { IfOk result (λ meaning. meaning ≡ close_at (map (λ w. w.now) words.now)) }
@@ -167,6 +171,7 @@ fn close_meaning(alloc: Global, words: &[&[u8]]) -> Result<Option<Meaning>, NoMe
     Ok(Some(Meaning::Event(Event::CloseWith { dead })))
 }
 
+// Returns the report of marked names that the tokens after `marked` spell, or `None`.
 #[tactic(auto, unfolding(crate::specs::Reading::marked_at))]
 fn marked_meaning(alloc: Global, words: &[&[u8]]) -> Result<Option<Meaning>, NoMemory>
     ensures { IfOk result (λ meaning. meaning ≡ marked_at (map (λ w. w.now) words.now)) }
@@ -177,6 +182,7 @@ fn marked_meaning(alloc: Global, words: &[&[u8]]) -> Result<Option<Meaning>, NoM
     Ok(Some(Meaning::Event(Event::Marked { names })))
 }
 
+// Returns the report of freed names that the tokens after `freed` spell, or `None`.
 #[tactic(auto, unfolding(crate::specs::Reading::freed_at))]
 fn freed_meaning(alloc: Global, words: &[&[u8]]) -> Result<Option<Meaning>, NoMemory>
     ensures { IfOk result (λ meaning. meaning ≡ freed_at (map (λ w. w.now) words.now)) }
@@ -187,6 +193,7 @@ fn freed_meaning(alloc: Global, words: &[&[u8]]) -> Result<Option<Meaning>, NoMe
     Ok(Some(Meaning::Event(Event::Freed { names })))
 }
 
+// Returns the event `Stop` if no token follows `stop`, and otherwise `None`.
 #[tactic(auto, unfolding(crate::specs::Reading::stop_at))]
 fn stop_meaning(words: &[&[u8]]) -> Option<Meaning>
     ensures { result ≡ stop_at (map (λ w. w.now) words.now) }
@@ -197,7 +204,7 @@ fn stop_meaning(words: &[&[u8]]) -> Option<Meaning>
     Some(Meaning::Event(Event::Stop))
 }
 
-// Returns the meaning of a mutator's commands with their answer. Any other tokens are no line of a trace.
+// Returns the meaning of a line with a mutator's command, copy or fill and its answer, or `Unknown` for any other tokens.
 fn mutator_meaning(alloc: Global, words: &[&[u8]]) -> Result<Meaning, NoMemory>
     ensures { IfOk result (IsMeaningOfRow (parts_at (map (λ w. w.now) words.now))) }
 {
@@ -217,7 +224,7 @@ fn mutator_meaning(alloc: Global, words: &[&[u8]]) -> Result<Meaning, NoMemory>
     }
 }
 
-// Returns the commands of a copy or a fill if `answer` says that it was done, and otherwise `None`.
+// Returns the commands of the copy or the fill that tokens spell, or `None`; also `None` if the answer isn't `Fine`.
 fn rows_if(alloc: Global, answer: Reply, words: &[&[u8]]) -> Result<Option<List<Command>>, NoMemory>
     ensures { IfOk result (λ rows. rows ≡ rows_if answer (map (λ w. w.now) words.now)) }
 {
@@ -239,18 +246,18 @@ fn rows(alloc: Global, words: &[&[u8]]) -> Result<Option<List<Command>>, NoMemor
         let Some(copying) = copying(rest) else {
             return Ok(None);
         };
-        return Ok(Some(copied(alloc, copying)?));
+        return Ok(Some(copy_commands(alloc, copying)?));
     }
     if *verb == b"fill".as_slice() {
         let Some(filling) = filling(rest) else {
             return Ok(None);
         };
-        return Ok(Some(filled(alloc, filling)?));
+        return Ok(Some(fill_commands(alloc, filling)?));
     }
     Ok(None)
 }
 
-// Returns the copy that the tokens `B J A I N via R` after `copy` spell, or `None`.
+// Returns the copy that seven tokens after `copy` spell (target, index, source, index, count, `via`, register), or `None`.
 #[tactic(auto, unfolding(crate::specs::Reading::copying_at))]
 fn copying(words: &[&[u8]]) -> Option<Copying>
     ensures { result ≡ copying_at (map (λ w. w.now) words.now) }
@@ -264,7 +271,7 @@ fn copying(words: &[&[u8]]) -> Option<Copying>
     copy(to, place, from, first, count, via)
 }
 
-// Returns the copy that six tokens spell. If the fields move up, it goes downwards, so that each is read before it changes.
+// Returns the copy that six tokens spell, or `None`. The copy goes downwards if its fields move up, and otherwise upwards.
 #[tactic(auto, unfolding(crate::specs::Reading::copy_at))]
 fn copy(
     to: &[u8],
@@ -310,7 +317,7 @@ fn span(count: &[u8], via: &[u8]) -> Option<(u32, u8)>
     Some((count, via))
 }
 
-// Returns the fill that the tokens `B J N V` after `fill` spell, or `None`.
+// Returns the fill that the four tokens after `fill` spell (object, first index, count, value), or `None`.
 #[tactic(auto, unfolding(crate::specs::Reading::filling_at))]
 fn filling(words: &[&[u8]]) -> Option<Filling>
     ensures { result ≡ filling_at (map (λ w. w.now) words.now) }
@@ -321,7 +328,7 @@ fn filling(words: &[&[u8]]) -> Option<Filling>
     fill(object, first, count, value)
 }
 
-// Returns the fill that four tokens spell, or `None`.
+// Returns the fill that these four tokens spell, or `None` if they spell none.
 #[tactic(auto, unfolding(crate::specs::Reading::fill_at))]
 fn fill(object: &[u8], first: &[u8], count: &[u8], value: &[u8]) -> Option<Filling>
     ensures { result ≡ fill_at object.now first.now count.now value.now }

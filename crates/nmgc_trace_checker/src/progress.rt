@@ -1,16 +1,13 @@
 //! The state of a trace of format 1, line by line.
 //!
-//! The commands before `mark` build a world; from then on each line is an event of the marking machine, which does it or
-//! refuses it. Only one thing is decided here: the machine's take has no name, and a trace has the name that the runtime
-//! took. So this name is compared with the names that the take marked.
-//!
-//! A line that can't happen ends the trace, so `after` takes the progress and gives none back.
+//! The commands before `mark` build a world; from then on each line is an event of the marking machine, which may refuse it.
+//! The machine's take has no name, but a trace's take has the name that the runtime took. So that name is compared with the
+//! names that the machine's take marked. A line that can't happen ends the trace, so `advance` takes the progress.
 //!
 //! Easy to get wrong: a name that was marked before is among the marked names after any take. In that case the number of
 //! marked names is compared too, since a take of another name would raise it.
 //!
-//! Code that drops a world or a machine calls `drop`, once. The check writes out an implicit drop, with all that the value
-//! owns, wherever the function can end. An explicit call is proved once, for its type.
+//! A world or a machine is dropped by one call of `drop`: an implicit drop is proved wherever the function can end.
 ghost use Rattle.std.specs.Prelude.{◌≡◌, ◌↔◌, IfOk, OnOk, IsTrue, Contains, length};
 ghost use Rattle.nmgc_trace_checker.specs.Trace.{IsNext, CanStart, IsAnsweredIf, IsTakeIf, IsDrain, next_if};
 ghost use Rattle.nmgc_trace_checker.specs.declared.line.Line.TheVariants as line_is;
@@ -40,7 +37,7 @@ impl Model for Built {
 }
 
 impl Built {
-    // Puts a world in its own memory.
+    // Puts a world in its own memory, as the world that commands build.
     fn new(alloc: Global, world: World) -> Result<Self, NoMemory>
         ensures { IfOk result (λ built. built ≡ world) }
     {
@@ -56,9 +53,8 @@ impl Built {
         Box::into_inner(world)
     }
 
-    // Applies the event's command to this world, and returns whether the event is a command that gets its answer. After
-    // `false` this may be any world.
-    fn answers(&mut self, event: &Event) -> Result<bool, NoMemory>
+    // Applies an event to the world as the function `apply_answered` does, and returns its answer.
+    fn apply_answered(&mut self, event: &Event) -> Result<bool, NoMemory>
         ensures { IfOk result (λ done. IsAnsweredIf self.old event.now done self.new) }
     {
         apply_answered(&mut self.world, event)
@@ -79,14 +75,14 @@ pub enum Progress {
 impl Progress {
     /// Returns the progress after one more line, or `None` exactly if the line can't happen. Takes the memory and time of
     /// `World::apply` and `Core::step`, of a drain's scans, and for a take also memory and time for each marked name.
-    pub fn after(self, alloc: Global, line: &Line) -> Result<Option<Self>, NoMemory>
+    pub fn advance(self, alloc: Global, line: &Line) -> Result<Option<Self>, NoMemory>
         ensures { IfOk result (IsNext self line.now) }
     {
         match line {
             Line::Blank => Ok(Some(self)),
             Line::Mutators(count) => self.start(alloc, *count),
             Line::Mark => self.mark(),
-            Line::Event(event) => self.event(event),
+            Line::Event(event) => self.do_event(event),
             Line::Take { mutator, name } => self.take(*mutator, *name),
             Line::Drain => self.drain(),
             Line::Unknown => {
@@ -96,8 +92,7 @@ impl Progress {
         }
     }
 
-    // Returns the progress with the empty heap of `count` mutators. Returns `None` exactly if there are mutators already, or
-    // that number isn't allowed.
+    // Begins with the empty heap of `count` mutators. Returns `None` exactly if there are mutators or `count` isn't allowed.
     fn start(self, alloc: Global, count: u8) -> Result<Option<Self>, NoMemory>
         ensures { IfOk result (IsNext self (line_is.Mutators count)) }
     {
@@ -114,7 +109,7 @@ impl Progress {
         }
     }
 
-    // Returns the progress when marking begins with the world built so far, or `None` exactly if it can't begin.
+    // Begins marking, with the world built so far as the snapshot. Returns `None` exactly if no world is being built.
     fn mark(self) -> Result<Option<Self>, NoMemory>
         ensures { IfOk result (IsNext self line_is.Mark) }
     {
@@ -130,24 +125,24 @@ impl Progress {
         }
     }
 
-    // Returns the progress after an event, or `None` exactly if it can't happen. Before marking it has to be a command.
-    fn event(self, event: &Event) -> Result<Option<Self>, NoMemory>
+    // Returns the progress after an event, or `None` exactly if it can't happen. Before marking only a command can happen.
+    fn do_event(self, event: &Event) -> Result<Option<Self>, NoMemory>
         ensures { IfOk result (IsNext self (line_is.Event event.now)) }
     {
         match self {
             Progress::Nothing => Ok(None),
             Progress::Building(mut built) => {
-                let happened = built.answers(event);
-                Progress::Building(built).if_happened(happened)
+                let happened = built.apply_answered(event);
+                Progress::Building(built).keep_if_happened(happened)
             }
             Progress::Marking(mut core) => {
                 let happened = core.step(event);
-                Progress::Marking(core).if_happened(happened)
+                Progress::Marking(core).keep_if_happened(happened)
             }
         }
     }
 
-    // Returns the progress after the marker took `name` from a mutator, or `None` exactly if it can't take that name there.
+    // Returns the progress after the marker took `name` from a mutator, or `None` exactly if the marker can't take that name.
     fn take(self, mutator: u8, name: Name) -> Result<Option<Self>, NoMemory>
         ensures { IfOk result (IsNext self (line_is.Take mutator name)) }
     {
@@ -158,13 +153,13 @@ impl Progress {
                 Ok(None)
             }
             Progress::Marking(mut core) => {
-                let happened = takes(&mut core, mutator, name);
-                Progress::Marking(core).if_happened(happened)
+                let happened = take_name(&mut core, mutator, name);
+                Progress::Marking(core).keep_if_happened(happened)
             }
         }
     }
 
-    // Returns the progress after scans until no scan can happen, or `None` exactly if marking hasn't begun.
+    // Returns the progress after scans until none can happen, or 2^64 - 1 scans; `None` exactly if marking hasn't begun.
     fn drain(self) -> Result<Option<Self>, NoMemory>
         ensures { IfOk result (IsNext self line_is.Drain) }
     {
@@ -184,8 +179,8 @@ impl Progress {
         }
     }
 
-    // Returns this progress if the line happened, and otherwise `None`.
-    fn if_happened(self, happened: Result<bool, NoMemory>) -> Result<Option<Self>, NoMemory>
+    // Returns this progress if the line happened, and `None` if it didn't. An error is passed on.
+    fn keep_if_happened(self, happened: Result<bool, NoMemory>) -> Result<Option<Self>, NoMemory>
         ensures { result ≡ next_if self happened }
     {
         match happened {
@@ -213,8 +208,8 @@ fn start_building(alloc: Global, count: u8) -> Result<Option<Progress>, NoMemory
     Ok(Some(Progress::Building(built)))
 }
 
-// Applies the event's command to a world, and returns whether the event is a command that gets its answer. After `false` the
-// world may be any.
+// Applies an event and returns `true`, if it is a command that can be given, with the heap's answer. Otherwise returns
+// `false`, and the world may be any world.
 fn apply_answered(world: &mut World, event: &Event) -> Result<bool, NoMemory>
     ensures { IfOk result (λ done. IsAnsweredIf world.old event.now done world.new) }
 {
@@ -233,8 +228,9 @@ fn apply_answered(world: &mut World, event: &Event) -> Result<bool, NoMemory>
     }
 }
 
-// Lets the marker take the first name that a mutator pushed. Returns whether it could, and thereby marked just `name`.
-fn takes(core: &mut Core, mutator: u8, name: Name) -> Result<bool, NoMemory>
+// Lets the marker take a mutator's first pushed name. Returns whether it could and thereby marked just `name`. After `false`
+// the machine may be in any state.
+fn take_name(core: &mut Core, mutator: u8, name: Name) -> Result<bool, NoMemory>
     ensures { IfOk result (λ done. IsTakeIf core.old mutator name done core.new) }
 {
     let before = core.marked()?;
@@ -242,7 +238,7 @@ fn takes(core: &mut Core, mutator: u8, name: Name) -> Result<bool, NoMemory>
         return Ok(false);
     }
     let after = core.marked()?;
-    Ok(is_joined(before.items(), after.items(), name))
+    Ok(is_just_marked(before.items(), after.items(), name))
 }
 
 // Does scans until no scan can happen, or 2^64 - 1 of them.
@@ -257,8 +253,8 @@ fn drain(core: &mut Core) -> Result<(), NoMemory>
     Ok(())
 }
 
-// Whether `name` is in `after`, and both lists have the same length if `name` is in `before` too.
-fn is_joined(before: &[Name], after: &[Name], name: Name) -> bool
+// Whether a take marked just `name`: `after` has it and, if `before` has it too, the two lists are equally long.
+fn is_just_marked(before: &[Name], after: &[Name], name: Name) -> bool
     ensures { IsTrue result ↔ (Contains after.now name × (Contains before.now name → length after.now ≡ length before.now)) }
 {
     after.contains(&name) && (!before.contains(&name) || after.len() == before.len())

@@ -1,7 +1,6 @@
-//! A trace, read line by line.
-//!
-//! The first line determines the format. A line is judged when read, and then forgotten, except for texts that `checker`
-//! keeps. So reading takes the memory of the heap, and a runtime that writes into a pipe is answered at the wrong line.
+//! A trace, read line by line. A line is judged when read, and then forgotten, except for texts that `checker` keeps. So
+//! reading takes memory for the traced heap, its longest line and the kept texts, and not for the whole trace. A runtime gets
+//! its answer as soon as a line can't happen.
 ghost use Rattle.std.specs.Prelude.{◌≡◌, ◌&&◌, true, codes, string_bytes, IfErr, IfOk};
 ghost use Rattle.std.specs.{Io.BufRead.strip_last, Str.bytes_eq};
 ghost use Rattle.nmgc_trace_checker.specs.{declared.reading.TraceFault.TheVariants.NoMemory as no_memory, Outcomes.IsFault, Outcomes.IsTooLong, Outcomes.IsOutcome, Outcomes.IsMarked, Outcomes.IsWatched, Outcomes.is_passed_of, Said.IsNextLine, Said.ahead, Said.texts_of};
@@ -37,6 +36,7 @@ impl Outcome {
     }
 }
 
+// Writes the verdict or the answer.
 impl fmt::Display for Outcome {
     fn fmt<W: fmt::Write>(&self, f: &mut fmt::Formatter<W>) -> fmt::Result {
         match self {
@@ -57,6 +57,7 @@ pub enum TraceFault {
     TooLong,
 }
 
+// A lack of memory is the fault `NoMemory`.
 impl From<NoMemory> for TraceFault {
     ghost from_gives = { λ _ fault. fault ≡ no_memory };
 
@@ -65,7 +66,7 @@ impl From<NoMemory> for TraceFault {
     }
 }
 
-// A reader's error for a line without room counts as no memory here. Such an error never means that a trace is too long.
+// An error of a stream is the fault `NoMemory` if its kind is `OutOfMemory`, and otherwise `Io`. It is never `TooLong`.
 impl From<io::Error> for TraceFault {
     ghost from_gives = { λ _ fault. IsFault ⊥ fault };
 
@@ -77,13 +78,13 @@ impl From<io::Error> for TraceFault {
     }
 }
 
-/// Reads a trace up to its end, or to the first line that can't happen, and returns the outcome: what `judge` or
-/// `judge_lines` reports for some lines. If the reader shows contracts its bytes, these are the lines of that text, in order,
-/// all or up to the refused line. The first line determines the format. If `is_asked`, each empty line of a trace of format 2
-/// is answered by `ok` once all lines before it have happened. Takes memory for the trace's heap, its longest line, and the
-/// commands of its longest copy or fill. In format 2 also for the texts of lines that made names due in the current cycle, at
-/// most one for each name and mutator. An error is the reason why there is no outcome; `TooLong` means 2^64 - 2 lines or
-/// more. No clause gives a fault its cause. Counts and the text of a line are tested.
+/// Reads a trace up to its end, or to the first line that can't happen, and returns the outcome, as `judge` or `judge_lines`
+/// reports it for some lines. If the reader shows contracts its bytes, these are the lines of that text, in order, all or up
+/// to the refused line. The first line determines the format. If `is_asked`, each empty line of a trace of format 2 is
+/// answered by `ok` once all lines before it have happened. Takes memory for the trace's heap, its longest line, and the
+/// commands of its longest copy or fill. A trace of format 2 also takes memory for lines that made names due in the current
+/// cycle, at most one for each name and mutator. An error is the reason why there is no outcome; `TooLong` means 2^64 - 2
+/// lines or more. No clause is about counts, the text of a due line, or `ok`.
 pub fn outcome_of<R: BufRead, P: Print>(
     alloc: Global,
     reader: &mut R,
@@ -96,15 +97,16 @@ pub fn outcome_of<R: BufRead, P: Print>(
     let mut text = String::new(alloc);
     let is_there = next_line(reader, &mut text)?;
     if is_watched(is_there, text.as_str()) {
-        let answer = watched(alloc, reader, text, answers, is_asked)?;
+        let answer = judge_watched(alloc, reader, text, answers, is_asked)?;
         return Ok(Outcome::Watched(answer));
     }
-    let verdict = marked(alloc, reader, text, is_there)?;
+    let verdict = judge_marked(alloc, reader, text, is_there)?;
     Ok(Outcome::Marked(verdict))
 }
 
-// Judges a trace of format 1, and returns the verdict. If `is_there`, its first line was read and is `text`.
-fn marked<R: BufRead>(
+// Judges a trace of format 1 and returns the verdict. If `is_there`, `text` is its first line, already read; else it has
+// none.
+fn judge_marked<R: BufRead>(
     alloc: Global,
     reader: &mut R,
     mut text: String,
@@ -121,7 +123,7 @@ fn marked<R: BufRead>(
             return Ok(meaning);
         }
         let line = line_of(alloc, without_end(text.as_str()))?;
-        let next = progress.after(alloc, &line)?;
+        let next = progress.advance(alloc, &line)?;
         match next {
             Some(reached) => progress = reached,
             None => return Ok(refusal(&line, number)),
@@ -132,8 +134,8 @@ fn marked<R: BufRead>(
     Err(TraceFault::TooLong)
 }
 
-// Judges a trace of format 2 whose first line, `text`, was read, and returns the answer.
-fn watched<R: BufRead, P: Print>(
+// Judges a trace of format 2 whose first line was read, and returns the answer. `ok` answers empty lines if `is_asked`.
+fn judge_watched<R: BufRead, P: Print>(
     alloc: Global,
     reader: &mut R,
     mut text: String,
@@ -149,7 +151,7 @@ fn watched<R: BufRead, P: Print>(
             return Ok(checker.end_answer());
         }
         let line = without_end(text.as_str());
-        let refused = checker.line(alloc, number, line)?;
+        let refused = checker.judge_line(alloc, number, line)?;
         if let Some(refusal) = refused {
             let answer = checker.refusal_answer(alloc, number, refusal)?;
             return Ok(answer);
@@ -162,7 +164,7 @@ fn watched<R: BufRead, P: Print>(
     Err(TraceFault::TooLong)
 }
 
-// Replaces `text` by the next line of a trace, with its end, and returns whether there is a next line.
+// Replaces `text` by the next line of a trace, with its end, or by nothing if none is left. Returns whether there was one.
 fn next_line<R: BufRead>(reader: &mut R, text: &mut String) -> io::Result<bool>
     ensures { IfOk result (IsNextLine (R.remaining reader.old) (R.remaining reader.new) (string_bytes text.new)) }
 {
@@ -185,7 +187,7 @@ fn is_head(text: &str) -> bool
     text.as_bytes() == b"trace 2".as_slice()
 }
 
-// Returns a line without its end: a line feed, and a carriage return before that.
+// Returns a line without a line feed at its end, if it has one, and then without a carriage return at its end.
 fn without_end(text: &str) -> &str
     ensures { result.now ≡ strip_last 13 (strip_last 10 text.now) }
 {

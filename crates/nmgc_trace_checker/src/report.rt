@@ -57,17 +57,17 @@ impl Report {
 }
 
 /// Returns the report on lines of a trace of format 2. It is `Refused` exactly if some line can't happen after the lines
-/// before it. It then has the first such line, with a reason that is a fact there. Otherwise each line can happen, and the
-/// report is the state after them. It is `Whole` exactly if each line can happen and the last event is a stop. Then a cycle
-/// ended without debts. A finished marker is possible beside each cycle that ended, and each finished marker can end there. A
-/// marker that ends has marked exactly the names reported as kept. The marker isn't in the trace.
+/// before it. Then it has the number of the first such line, and a reason that is a fact there. Otherwise it is the state
+/// after all lines. It is `Whole` exactly if each line can happen and the last event is a stop. In a whole trace a cycle
+/// ended, and each cycle that ended had no debts. Beside each such cycle a finished marker is possible, and each finished
+/// marker can end there. A marker that ends has marked exactly the names reported as kept.
 pub fn judge_lines(alloc: Global, lines: &[Meaning]) -> Result<Report, NoMemory>
     ensures report { IfOk result (IsReport lines.now) }
     ensures whole { IfOk result (IsWholeReport lines.now) }
 {
     let mut begun = Begun::Nothing;
     for (index, meaning) in lines.iter().enumerate() {
-        let refused = happen(&mut begun, alloc, index + 1, meaning)?;
+        let refused = do_line(&mut begun, alloc, index + 1, meaning)?;
         if let Some(refusal) = refused {
             drop(begun);
             return Ok(Report::Refused(index + 1, refusal));
@@ -78,8 +78,8 @@ pub fn judge_lines(alloc: Global, lines: &[Meaning]) -> Result<Report, NoMemory>
     Ok(report)
 }
 
-/// Changes the state by a line, and returns `None`, or the reason why the line can't happen.
-pub(crate) fn happen(
+/// Does the line with this meaning and returns `None`, or returns why it can't happen. After a refusal the state may be any.
+pub(crate) fn do_line(
     begun: &mut Begun,
     alloc: Global,
     line: usize,

@@ -6,7 +6,7 @@ use nmgc_limits::SHARED_MAKER;
 use nmgc_world_spec::{Name, Reply, Value};
 use std::fmt;
 
-/// Writes why a line can't happen. If the text of the line since which a name is due is known, writes it too.
+/// Writes why a line can't happen, with the text of the line since which a name is due, if that text is known.
 pub(crate) fn write_refusal<W: fmt::Write>(
     f: &mut fmt::Formatter<W>,
     refusal: Refusal,
@@ -59,7 +59,7 @@ fn write_why<W: fmt::Write>(
     }
 }
 
-// Writes which name is due, and since when.
+// Writes which name is due, and since which line.
 fn write_debt<W: fmt::Write>(
     f: &mut fmt::Formatter<W>,
     debt: Debt,

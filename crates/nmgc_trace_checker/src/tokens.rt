@@ -1,7 +1,5 @@
-//! The meaning of the tokens of a line.
-//!
-//! Numbers and names are spelled as in a report, registers and operands as in a script. Two spaces in a row make an empty
-//! token, which is neither a number nor a name.
+//! The meaning of the tokens of a line. Numbers and names are spelled as in a report, registers and operands as in a script.
+//! Two spaces in a row make an empty token, which is neither a number nor a name.
 ghost use Rattle.std.specs.Prelude.{◌≡◌, ◌≤◌, [], map, IfSome, IfOk};
 ghost use Rattle.nmgc_journal.specs.Reading.{number_at, name_at};
 ghost use Rattle.nmgc_trace_checker.specs.Reading.{byte_at, short_at, register_at, operand_at, each_at, no_names_at, names_at, pusher_at};
@@ -46,7 +44,7 @@ pub(crate) fn register(word: &[u8]) -> Option<u8>
     }
 }
 
-/// Returns the operand that a token spells, a register or `g`, or `None`. Takes no memory.
+/// Returns the operand that a token spells, `g` or a register, or `None` if it spells no operand. Takes no memory.
 #[tactic(auto, unfolding(crate::specs::Reading::operand_at))]
 pub(crate) fn operand(word: &[u8]) -> Option<Operand>
     ensures { result ≡ operand_at word.now }
@@ -57,7 +55,8 @@ pub(crate) fn operand(word: &[u8]) -> Option<Operand>
     Some(Operand::Register(register(word)?))
 }
 
-/// Returns the pusher that a token spells: a mutator, or `Some(None)` for a hyphen, the collector itself. Takes no memory.
+/// Returns the pusher that a token spells: a mutator, or `Some(None)` for a hyphen, which is the collector itself. Returns
+/// `None` for any other token. Takes no memory.
 #[tactic(auto, unfolding(crate::specs::Reading::pusher_at))]
 pub(crate) fn pusher(who: &[u8]) -> Option<Option<u8>>
     ensures { result ≡ pusher_at who.now }
@@ -68,7 +67,7 @@ pub(crate) fn pusher(who: &[u8]) -> Option<Option<u8>>
     Some(Some(byte(who)?))
 }
 
-/// Returns the names that tokens spell, and no names for a single hyphen. Returns `None` for all other tokens.
+/// Returns the names that tokens spell, or an empty list for a single hyphen. Returns `None` for other tokens, or for none.
 #[tactic(auto, unfolding(crate::specs::Reading::names_at))]
 pub(crate) fn names(alloc: Global, words: &[&[u8]]) -> Result<Option<List<Name>>, NoMemory>
     ensures { IfOk result (λ names. names ≡ names_at (map (λ w. w.now) words.now)) }
@@ -82,7 +81,7 @@ pub(crate) fn names(alloc: Global, words: &[&[u8]]) -> Result<Option<List<Name>>
     each_name(alloc, words)
 }
 
-// Returns an empty list of names if no token is left, and otherwise `None`.
+// Returns an empty list of names if there are no tokens, and otherwise `None`.
 #[tactic(auto, unfolding(crate::specs::Reading::no_names_at))]
 fn no_names(alloc: Global, words: &[&[u8]]) -> Option<List<Name>>
     ensures { result ≡ no_names_at (map (λ w. w.now) words.now) }

@@ -39,6 +39,7 @@ impl Verdict {
     }
 }
 
+// Writes the verdict, with the marked or kept names if it has names.
 impl fmt::Display for Verdict {
     fn fmt<W: fmt::Write>(&self, f: &mut fmt::Formatter<W>) -> fmt::Result {
         match self {
@@ -68,15 +69,15 @@ fn write_names<W: fmt::Write>(f: &mut fmt::Formatter<W>, names: &[Name]) -> fmt:
 
 /// Returns the verdict on the lines of a trace of format 1. The verdict is `Bad` or `Refused` exactly if some line can't
 /// happen after the lines before it, and has the number of the first such line. `Open` and `Closed` list exactly the names
-/// that the marking machine has marked after all lines. So `Closed` has exactly the names that a cycle has to keep, by the
-/// heap and the commands alone. The snapshot of this cycle is the heap that the commands before `mark` built.
+/// that the marking machine has marked after all lines. The names of `Closed` are exactly the names that a cycle has to keep,
+/// by the heap and the commands alone. The snapshot of this cycle is the heap that the commands before `mark` built.
 pub fn judge(alloc: Global, lines: &[Line]) -> Result<Verdict, NoMemory>
     ensures verdict { IfOk result (IsVerdict lines.now) }
     ensures kept { IfOk result (ListsKept lines.now) }
 {
     let mut progress = Progress::Nothing;
     for (index, line) in lines.iter().enumerate() {
-        let next = progress.after(alloc, line)?;
+        let next = progress.advance(alloc, line)?;
         match next {
             Some(reached) => progress = reached,
             None => return Ok(refusal(line, index + 1)),
@@ -86,7 +87,7 @@ pub fn judge(alloc: Global, lines: &[Line]) -> Result<Verdict, NoMemory>
     Ok(meaning)
 }
 
-/// Returns the verdict on a trace whose line `line`, with this number, can't happen: `Bad` if it is no line of a trace.
+/// Returns the verdict on a trace whose line of this number can't happen: `Bad` if it is no line of a trace, else `Refused`.
 pub(crate) fn refusal(line: &Line, number: usize) -> Verdict
     ensures { result ≡ refusal_of line.now number }
 {

@@ -1,7 +1,7 @@
-//! A value that only clauses read: an end of a ring when both ends were last found level.
+//! A value that only clauses read: an end of a ring as it was when both ends were last found level (`ring`).
 //!
-//! Easy to get wrong: the library's own snapshot says the same. But a type that has one beside an end of a ring is not found
-//! to be `Send`, since the snapshot's proof isn't filed with its type. A mutator moves to a thread, so this one is.
+//! Easy to get wrong: the library has such a type too, its snapshot. But a type with a snapshot and an end of a ring isn't
+//! found to be `Send`, since the snapshot's proof isn't filed with its type. A mutator moves to a thread.
 ghost use Rattle.std.specs.Prelude.{◌≡◌};
 ghost use base.Fml.{ftrue};
 
@@ -18,7 +18,7 @@ impl<T> Model for Level<T> {
 }
 
 impl<T> Level<T> {
-    /// Returns, for clauses only, the value that the reference shows now. Nothing happens when it runs.
+    /// Returns a `Level` without bytes. Its `value`, which only clauses read, is the value to which `x` refers now.
     pub(crate) fn of(x: &T) -> Level<T>
         ensures { result.value ≡ x.now }
     {
@@ -29,6 +29,7 @@ impl<T> Level<T> {
     }
 }
 
+// Drops nothing: a level has no bytes.
 impl<T> Drop for Level<T> {
     fn drop(self) {
         let Self { marker: _ } = self;

@@ -1,11 +1,9 @@
 //! A ring of blocks from a mutator to the collector, and its two ends.
 //!
 //! The mutator puts full blocks in while the collector takes them out; neither waits for the other. Each end knows its own
-//! calls. When one thread has both, at a stop, the blocks received and the blocks in the ring are exactly the blocks sent, in
-//! order. That an end looks at the other's progress is tested.
-//!
-//! A stop ends with an empty ring. `since` has the entries sent since then: it counts from the moment when both ends were
-//! last found level, which a value without bytes remembers (`level`).
+//! calls. No clause says that an end looks at the other's progress; tests check it. At a stop one thread has both ends: the
+//! blocks received and the blocks in the ring are exactly the blocks sent, in order. The thread empties the ring: then the
+//! ends are *level*. In clauses `since` has the entries sent since both ends were last found level (`level`).
 //!
 //! Before each object that it scans, the marker polls every ring, and nearly always finds nothing. So a call asks first
 //! whether there is a block, or a slot, and only then has a block among its locals.
@@ -90,7 +88,7 @@ pub fn link(alloc: Global) -> Result<(UpdSender, UpdReceiver), NoMemory>
 }
 
 impl UpdSender {
-    // Whether this end knows of no free slot. Every slot that it knew to be free stays known.
+    // Returns whether this end knows of no free slot. It may look at the receiver first. Known free slots stay known.
     pub(crate) fn is_full(&mut self) -> bool
         ensures looked { HasLooked self.old self.new }
         ensures value { IsTrue result ↔ (self.new.free ≡ 0) }
@@ -99,8 +97,8 @@ impl UpdSender {
         self.producer.is_full()
     }
 
-    // Puts the first `BLOCK_ENTRIES` addresses of a list into the ring as a block. A slot has to be known to be free. The
-    // call isn't inlined, so that memory for a block is cleared only when a block is sent.
+    // Puts the first `BLOCK_ENTRIES` addresses of a list into the ring as a block. The list has to have that many, and this
+    // end has to know of a free slot. The call isn't inlined, so that memory for a block is cleared only if a block is sent.
     #[inline(never)]
     pub(crate) fn send(&mut self, places: &[Address])
         requires full { BLOCK_ENTRIES ≤ length places.now }
@@ -112,8 +110,8 @@ impl UpdSender {
 }
 
 impl UpdReceiver {
-    /// Takes the oldest block out of the ring and returns it: blocks come out in the order in which they went in. Returns
-    /// `None` only if this end knew of no block when it looked. Takes no memory, constant time, and never waits.
+    /// Takes the oldest block out of the ring and returns it. The list of entries stays. Returns `None` only if this end knew
+    /// of no block when it looked. Takes no memory, constant time, and never waits.
     pub fn take(&mut self) -> Option<UpdBlock>
         ensures some { IfSome result (λ block. HasReceived self.old self.new block × (self.new.taken ≡ self.old.taken)) }
         ensures none { IfNone result (KnowsNone self.old self.new) }
@@ -124,7 +122,7 @@ impl UpdReceiver {
         Some(self.consumer.pop_known())
     }
 
-    /// Makes room for at least `entries` more entries. After `NoMemory` the list is unchanged.
+    /// Makes room for at least `entries` more entries in the list. Its entries stay. After `NoMemory` nothing changed.
     pub fn reserve(&mut self, entries: u32) -> Result<(), NoMemory>
         ensures rest { self.new ≡ record self.old { taken = self.new.taken } }
         ensures items { self.new.taken.items ≡ self.old.taken.items }
@@ -136,9 +134,9 @@ impl UpdReceiver {
         Ok(())
     }
 
-    /// Takes the oldest block out of the ring and appends its entries to the list, if the list has room for a block.
-    /// `Took`: a block was taken. `Nothing`: this end knew of no block when it looked. `NoRoom`, exactly if the list has room
-    /// for fewer than `BLOCK_ENTRIES` entries: then this end doesn't look. Takes no memory, and never waits.
+    /// Takes the oldest block out of the ring, appends its entries to the list, and returns `Took`. Returns `NoRoom`, without
+    /// a look into the ring, exactly if the list has room for fewer than `BLOCK_ENTRIES` entries. Returns `Nothing` if this
+    /// end knew of no block when it looked. Takes no memory, and never waits.
     pub fn poll(&mut self) -> Poll
         ensures polls { Polls self.old self.new result }
         ensures room { (result ≡ NoRoom) ↔ (self.old.taken.spare < BLOCK_ENTRIES) }
@@ -153,7 +151,7 @@ impl UpdReceiver {
         Poll::Took
     }
 
-    /// Returns the entries taken since the last `clear`, from the oldest on.
+    /// Returns the entries that polls took since the last `clear`, from the oldest on.
     pub fn entries(&self) -> &[Address]
         ensures { result.now ≡ self.now.taken.items }
     {
@@ -169,8 +167,8 @@ impl UpdReceiver {
         self.entries.clear();
     }
 
-    // Looks into the ring, in a thread with both ends. Then the entries received and those in the ring are all that were
-    // sent.
+    // Looks into the ring, in a thread that has both of its ends, and moves no entry. Afterwards clauses know that the
+    // entries received, then those in the ring, are all entries sent.
     pub(crate) fn meet(&mut self, sender: &mut UpdSender)
         requires { IsPair sender.old self.old }
         ensures { HasMet self.old self.new sender.old sender.new }
@@ -178,8 +176,9 @@ impl UpdReceiver {
         self.consumer.slots_beside(&mut sender.producer);
     }
 
-    /// Takes the oldest block out of the ring and returns it, in a thread that has both ends. Returns `None` exactly if the
-    /// ring is empty: then both ends are level, and the sender counts its entries anew. Takes no memory.
+    /// Takes the oldest block out of the ring and returns it, in a thread that has both of its ends. Returns `None` exactly
+    /// if the ring is empty, so a loop takes all the rest. After `None` both ends are level: the sender's `before` has all
+    /// entries sent, and `since` has none. Takes no memory.
     pub fn take_rest(&mut self, sender: &mut UpdSender) -> Option<UpdBlock>
         requires { IsPair sender.old self.old }
         ensures some { IfSome result (λ block. TakesRest self.old self.new sender.old sender.new block) }
@@ -193,8 +192,8 @@ impl UpdReceiver {
     }
 }
 
-// Takes the oldest block out of a ring, and appends its entries to a list that has room for them. The block has to be known.
-// The call isn't inlined, so that a poll that finds nothing clears no memory for a block.
+// Takes the oldest block out of a ring, and appends its entries to a list that has room for them. `consumer` has to know of a
+// block. The call isn't inlined, so that a poll that finds nothing clears no memory for a block.
 #[inline(never)]
 fn receive(consumer: &mut Consumer<UpdBlock>, entries: &mut Vec<Address>)
     requires known { 0 < length (known_items consumer.old) }

@@ -73,10 +73,7 @@ one_word : (before between after : FinQueue) (words all : List ℕ) (w : ℕ) �
 one_word before between after words all w h is added spare =
     let l = ap length is ∙ length-append words (w ∷ []) in
     let s = h.spare in
-    record {
-      words_are = cc (added, h.words_are, append_assoc before.words words (w ∷ []), is);
-      spare = omega (arith, l, s);
-    }
+    record { words_are = cc (added, h.words_are, append_assoc before.words words (w ∷ []), is); spare = omega (arith, l, s) }
 
 pub get_default : {A : Type 0} (xs : List A) (i : ℕ) (d : A) → i < length xs → slice_get xs i ≡ Some (get_or xs i d)
 get_default [] i d lt = absurd (omega arith)

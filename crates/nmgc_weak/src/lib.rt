@@ -2,8 +2,8 @@
 //!
 //! Each weak pointer that is alive and has a block is in a list, with its address, in order of names (`weaks`). The list is
 //! stored in a row for each maker (`row`). At each stop new weak pointers join the list, and finalised weak pointers leave
-//! it. When a cycle closes, `Weaks::resolve` finds which weak pointers of the snapshot keep their values and finalisers,
-//! since their keys are live, and which die. The finalisers of the dying join their makers' queues (`queues`).
+//! it. At a closing, `Weaks::resolve` finds the snapshot's weak pointers that keep their values and finalisers, since their
+//! keys are live, and those that die. The finalisers of the dying join their makers' queues (`queues`).
 //!
 //! The promise is that the closing is the marking machine's (`specs/Resolve.antt`). Exactly the objects that the cycle keeps
 //! are marked, the deaths are exactly the dead weak pointers, and words and list represent the closed world. `laws` says this

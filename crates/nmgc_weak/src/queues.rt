@@ -6,8 +6,8 @@ use crate::weaks::Death;
 use nmgc_heap_spec::MutatorRoots;
 use nmgc_object::words::NIL_WORD;
 
-/// Appends the finaliser of each death, unless it is nil, to the queue of the weak pointer's maker, in the order of the
-/// deaths. Each maker among the deaths is a mutator, and the queues have room. Only the queues change. Takes no memory.
+/// Appends the finaliser of each death to the queue of the weak pointer's maker, unless the finaliser is nil, in the order of
+/// the deaths. Requires that each of these makers is a mutator and its queue has room. Only queues change. Takes no memory.
 pub fn queue_finalisers<M: MutatorRoots>(deaths: &[Death], mutators: &mut [M])
     requires { HaveRoom deaths.now (map M.queue mutators.old) }
     ensures { HaveJoined M.queue M.with_queue deaths.now mutators.old mutators.new }

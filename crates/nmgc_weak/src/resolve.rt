@@ -1,14 +1,14 @@
-//! The steps of a closing: some weak pointers keep their parts, and the rest die.
+//! The steps of a closing: some weak pointers are kept (marked with their values and finalisers), and the rest die.
 //!
-//! Nothing here decides liveness. Once a pass over the list finds no weak pointer that keeps anything new, a key is live
-//! exactly if it is marked. The proof that this is the marking machine's closing goes from each state that could be closed to
-//! a state with more marks (`specs/Steps.antt`).
+//! A key counts as marked if it is nil, a number, g, or marked. Nothing here decides liveness. Once a pass over the list
+//! marks nothing, a key is live exactly if it counts as marked. The proof shows that this is the marking machine's closing,
+//! step by step: each step leads to the same machine with more marks (`specs/Steps.antt`).
 //!
-//! A weak pointer that keeps its parts may revive the key of any other, even of an earlier one in the list. So weak pointers
-//! without a marked key are filed by the addresses of their keys, and each address marked from then on is looked up in that
-//! file (`keep_ahead`). However they revive one another, this takes time for the weak pointers and for the marked objects,
-//! and a logarithm. The contracts only promise that all that is kept is kept rightly. Passes over the list follow, and the
-//! last, which finds nothing, shows that nothing is left (`pass_until_none`).
+//! A kept weak pointer may revive the key of any other, even of an earlier one in the list. So weak pointers without a marked
+//! key are filed by the addresses of their keys, and each address marked from then on is looked up in that file. However they
+//! revive one another, this takes time for the weak pointers and the objects that become marked, times a logarithm, and for
+//! these objects' fields. But `keep_ahead` only promises marks that the closing has too. Passes over the list follow, and the
+//! last, which marks nothing, shows that nothing is left (`pass_until_none`).
 //!
 //! Easy to get wrong: the finalisers of the dying may reach their own keys. So the dying are found before any finaliser is
 //! marked. Their value words become 0 last: the words have to represent the world in which the marker follows fields.
@@ -28,11 +28,12 @@ use nmgc_heap_spec::HeapWords;
 use nmgc_mark::Marker;
 use nmgc_object::{Address, FieldWord, HEADER_WORDS, SHARED_PLACE};
 
-// Returns the segment and the number of the snapshot's block that begins at an address, or `None` if none begins there.
+// Returns the numbers of the segment and the block that begins at an address, if it is a block of the snapshot, else `None`.
 fn snapshot_block(segments: &Segments, at: Address) -> Option<(u32, u32)>
     ensures some { IfSome result (λ p. IsBlockAt segments.now p.0 p.1 at.0 × IsSnapshotAt segments.now at.0) }
     ensures none { IfNone result (IsSnapshotAt segments.now at.0 → ⊥) }
 {
+    // Note [Lines that do nothing] in `nmgc_alloc`: this gives the prover that all segments are sound.
     let _ = segments.layout();
     let (number, block) = segments.block_at(at)?;
     if segments.segment(number).in_snapshot(block) {
@@ -48,7 +49,7 @@ fn is_of_snapshot(segments: &Segments, at: Address) -> bool
     snapshot_block(segments, at).is_some()
 }
 
-// Whether a marked block begins at an address.
+// Whether a block begins at an address and is marked with `epoch`.
 fn is_marked(segments: &Segments, at: Address, epoch: u8) -> bool
     requires { IsEpoch epoch }
     ensures { IsTrue result ↔ IsMarkedAt segments.now epoch at.0 }
@@ -60,7 +61,7 @@ fn is_marked(segments: &Segments, at: Address, epoch: u8) -> bool
     }
 }
 
-// Whether a key is nil, a number, g, or marked.
+// Whether a key counts as marked: it is nil, a number, g, or marked.
 fn is_key_marked(segments: &Segments, key: u64, epoch: u8) -> bool
     requires epoch { IsEpoch epoch }
     requires small { (to : ℕ) → key ≡ 2 * to → to < 2 ^ 32 }
@@ -73,7 +74,7 @@ fn is_key_marked(segments: &Segments, key: u64, epoch: u8) -> bool
     to == SHARED_PLACE || is_marked(segments, Address(to), epoch)
 }
 
-// Whether the key of a weak pointer is nil, a number, g, or marked.
+// Whether the key of the weak pointer at `at` counts as marked (`is_key_marked`).
 fn has_marked_key<W: HeapWords>(
     marker: &Marker,
     words: &mut W,
@@ -89,7 +90,7 @@ fn has_marked_key<W: HeapWords>(
     is_key_marked(segments, key, marker.epoch())
 }
 
-// Whether a weak pointer is in the snapshot, and its key isn't marked.
+// Whether the weak pointer at `at` is lost by the marks so far: it is in the snapshot, and its key doesn't count as marked.
 fn is_lost<W: HeapWords>(marker: &Marker, words: &mut W, segments: &Segments, at: Address) -> bool
     requires { IsWithin (W.words words.old) at.0 }
     ensures words { W.words words.new ≡ W.words words.old }
@@ -100,7 +101,7 @@ fn is_lost<W: HeapWords>(marker: &Marker, words: &mut W, segments: &Segments, at
     is_of_snapshot(segments, at) && !key_marked
 }
 
-// Marks the weak pointer in the block at `at`, its value, its finaliser, and all that is reachable from these.
+// Keeps the weak pointer in the block at `at`: marks it, its value, its finaliser, and all that is reachable from these.
 fn keep<W: HeapWords>(
     marker: &mut Marker,
     words: &mut W,
@@ -128,7 +129,7 @@ fn keep<W: HeapWords>(
     marker.finish(words, segments);
 }
 
-// Marks a weak pointer with its parts, if it is in the snapshot and its key is marked. Otherwise nothing changes.
+// Keeps a listed weak pointer (`keep`), if it is in the snapshot and its key counts as marked. Otherwise nothing changes.
 fn keep_if_key_marked<W: HeapWords>(
     marker: &mut Marker,
     words: &mut W,
@@ -153,7 +154,8 @@ fn keep_if_key_marked<W: HeapWords>(
     keep(marker, words, segments, weak.at, number, block);
 }
 
-// Goes through the list once, and marks the parts of each weak pointer that is in the snapshot and has a marked key.
+// Goes through the list once, in order. Keeps (`keep`) each weak pointer that is in the snapshot and whose key counts as
+// marked by then.
 fn pass<W: HeapWords>(list: &[OldWeak], marker: &mut Marker, words: &mut W, segments: &mut Segments)
     requires room { HasRoomToMark segments.old marker.old }
     requires within { AreWithin (W.words words.old) list.now }
@@ -169,7 +171,7 @@ fn pass<W: HeapWords>(list: &[OldWeak], marker: &mut Marker, words: &mut W, segm
     }
 }
 
-// Goes through the list until a pass marks nothing. Then all the snapshot's weak pointers with marked keys have marked parts.
+// Repeats `pass` until it marks nothing. Then each listed weak pointer of the snapshot with a marked key has marked parts.
 fn pass_until_none<W: HeapWords>(
     list: &[OldWeak],
     marker: &mut Marker,
@@ -201,7 +203,7 @@ pub(crate) struct Waiter {
     place: usize,
 }
 
-// Returns the address to which a weak pointer's key points, `None` if the key is no pointer. No clause is about the answer.
+// Returns the address to which a weak pointer's key points, or `None` if the key is no pointer. No clause says so.
 fn key_of<W: HeapWords>(words: &mut W, at: Address) -> Option<u32>
     requires { IsWithin (W.words words.old) at.0 }
     ensures { W.words words.new ≡ W.words words.old }
@@ -210,7 +212,7 @@ fn key_of<W: HeapWords>(words: &mut W, at: Address) -> Option<u32>
     u32::try_from(FieldWord(key).place()?).ok()
 }
 
-// If a weak pointer of the snapshot has no marked key, files its key and its position in `waiting`, which has room for it.
+// Files a weak pointer in `waiting`, by its key and its position, if it is lost by the marks so far. `waiting` needs room.
 fn file_one<W: HeapWords>(
     weak: OldWeak,
     place: usize,
@@ -234,7 +236,7 @@ fn file_one<W: HeapWords>(
     waiting.push_reserved(Waiter { key, place });
 }
 
-// Files in `waiting`, in order of keys, the snapshot's weak pointers that have no marked key. No clause says which are filed.
+// Files in the empty list `waiting`, by keys, the listed weak pointers that are lost by the marks so far. No clause says so.
 fn file_waiting<W: HeapWords>(
     list: &[OldWeak],
     waiting: &mut Vec<Waiter>,
@@ -254,8 +256,8 @@ fn file_waiting<W: HeapWords>(
     waiting.sort_unstable_by_key(|waiter| waiter.key);
 }
 
-// Returns the position of the first entry of `waiting` whose key is at least `key`. No clause is about the answer.
-fn first_with(waiting: &[Waiter], key: u32) -> usize {
+// Returns the first position in the sorted list `waiting` that has at least this key, or its length. No clause says so.
+fn first_at_least(waiting: &[Waiter], key: u32) -> usize {
     let mut low = 0;
     let mut high = waiting.len();
     while low < high {
@@ -269,7 +271,7 @@ fn first_with(waiting: &[Waiter], key: u32) -> usize {
     low
 }
 
-// If the list has, at this position, a weak pointer of the snapshot with a marked key, marks the parts of that weak pointer.
+// Keeps (`keep`) the weak pointer at position `place`, if there is one, it is in the snapshot, and its key counts as marked.
 fn keep_at<W: HeapWords>(
     list: &[OldWeak],
     place: usize,
@@ -291,7 +293,7 @@ fn keep_at<W: HeapWords>(
     keep_if_key_marked(marker, words, segments, list[place]);
 }
 
-// If the object at address `key` is marked, marks the parts of the weak pointers that wait for this object.
+// Keeps (`keep`) the weak pointers that wait for the object at address `key`, if this object is marked.
 fn keep_waiting<W: HeapWords>(
     list: &[OldWeak],
     waiting: &[Waiter],
@@ -308,14 +310,14 @@ fn keep_waiting<W: HeapWords>(
     ensures turns { marker.new.turns ≡ marker.old.turns }
     ensures goes { GoesOn (W.words words.old) segments.old segments.new marker.old marker.new (places_of list.now) }
 {
-    let mut next = first_with(waiting, key);
+    let mut next = first_at_least(waiting, key);
     while next < waiting.len() && waiting[next].key == key {
         keep_at(list, waiting[next].place, marker, words, segments);
         next += 1;
     }
 }
 
-// Marks the parts of weak pointers that wait for a block marked after the first `from`, even if this call marks the block.
+// Keeps (`keep`) the weak pointers that wait for blocks marked after the first `from` blocks, before or during this call.
 fn follow_marks<W: HeapWords>(
     list: &[OldWeak],
     waiting: &[Waiter],
@@ -339,8 +341,7 @@ fn follow_marks<W: HeapWords>(
     }
 }
 
-// Marks the parts of weak pointers with marked keys, then the parts of weak pointers whose keys became marked, and so on. No
-// clause says that none is left: later passes find the rest.
+// Keeps (`keep`) weak pointers whose keys are or become marked. No clause says that none is left: passes find the rest.
 fn keep_ahead<W: HeapWords>(
     list: &[OldWeak],
     waiting: &mut Vec<Waiter>,
@@ -365,8 +366,8 @@ fn keep_ahead<W: HeapWords>(
     follow_marks(list, waiting.as_slice(), from, marker, words, segments);
 }
 
-/// Marks the parts of each listed weak pointer that is in the snapshot and has a marked key, until no further key becomes
-/// marked. The weak pointers that wait for keys are filed in `waiting`, which is empty before and has room.
+/// Keeps (`keep`) each listed weak pointer that is in the snapshot and has a marked key, until no further key becomes marked.
+/// The weak pointers that wait for keys are filed in `waiting`, which has to be empty, with room for the list.
 pub(crate) fn revive<W: HeapWords>(
     list: &[OldWeak],
     waiting: &mut Vec<Waiter>,
@@ -390,7 +391,7 @@ pub(crate) fn revive<W: HeapWords>(
     pass_until_none(list, marker, words, segments);
 }
 
-/// Fills `dying`, which is empty, with the listed weak pointers that are in the snapshot and have no marked key, in order.
+/// Fills `dying`, which has to be empty, with the listed weak pointers of the snapshot that have no marked key, in order.
 pub(crate) fn find_dying<W: HeapWords>(
     list: &[OldWeak],
     dying: &mut Vec<OldWeak>,
@@ -416,6 +417,7 @@ pub(crate) fn find_dying<W: HeapWords>(
 }
 
 /// Lists each dying weak pointer and its finaliser in `deaths`, and marks the finalisers and all that is reachable from them.
+/// Requires that `dying` has all that die (`CanRescue`), and that `deaths` is empty, with room for them.
 pub(crate) fn save_finalisers<W: HeapWords>(
     dying: &[OldWeak],
     deaths: &mut Vec<Death>,

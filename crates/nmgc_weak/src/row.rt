@@ -4,7 +4,7 @@
 //! leaving weak pointer, in logarithmic time. Nothing moves then: the entry is only flagged as left. Once more than half of a
 //! row has left, the rest moves together, and the leaving weak pointers pay for it.
 //!
-//! Easy to get wrong: an entry that left still counts in the order, and its name may join again.
+//! Easy to get wrong: an entry that left still counts in the order, and a weak pointer of the same name may join again.
 ghost use Rattle.std.specs.Prelude.{ℕ, ◌≡◌, ◌≢◌, ◌⊎◌, ◌↔◌, ◌+◌, ◌<◌, ◌≤◌, [], ◌++◌, length, slice_get, Some, vec_len, vec_capacity, Contains, IfSome, IfNone, OnOk};
 ghost use Rattle.nmgc_world_spec.specs.Reach.{IsBefore, IsInOrder};
 ghost use Rattle.nmgc_weak.specs.{declared.weaks.OldWeak.OldWeak as Old, declared.row.Entry.Entry as Kept, Weaks.AreInside, Weaks.names_of, Weaks.alive_of, Rows.listed, Rows.entry_names, Rows.without, Rows.IsEntryAt};
@@ -47,7 +47,7 @@ impl Model for Row {
     ghost invariant = { λ r. IsInOrder (entry_names r.entries.items) };
 }
 
-// Returns the position of a name's entry, found by binary search, or `None` if no entry has this name.
+// Returns the position of a name's entry, or `None` if no entry has this name. By binary search: entries have to be in order.
 fn find(entries: &[Entry], weak: Name) -> Option<usize>
     requires { IsInOrder (entry_names entries.now) }
     ensures some { IfSome result (λ place. IsEntryAt entries.now place weak) }
@@ -98,7 +98,7 @@ impl Row {
         }
     }
 
-    /// Makes room for at least `more` further weak pointers. The list stays, and room is never lost.
+    /// Makes room for at least `more` further weak pointers. The list stays and no room is lost, also after `NoMemory`.
     pub(crate) fn reserve(&mut self, more: usize) -> Result<(), NoMemory>
         ensures list { self.new.list ≡ self.old.list }
         ensures ok { OnOk result (more ≤ self.new.spare) }
@@ -139,7 +139,7 @@ impl Row {
 
     /// Takes the weak pointer `weak` out of the list, if the list has it with the address `at`. Takes no memory, and
     /// logarithmic time, or time for the whole row if more than half of the row has left.
-    pub(crate) fn leave(&mut self, weak: Name, at: Address)
+    pub(crate) fn remove(&mut self, weak: Name, at: Address)
         ensures list { self.new.list ≡ without (record { weak = weak; at = at }) self.old.list }
         ensures ordered { IsInOrder (names_of self.new.list) }
         ensures spare { self.old.spare ≤ self.new.spare }
@@ -158,7 +158,7 @@ impl Row {
         }
     }
 
-    // Removes the entries that left, and moves the rest together.
+    // Removes the entries that are flagged as left, and moves the rest together.
     fn drop_left_entries(&mut self)
         ensures list { self.new.list ≡ self.old.list }
         ensures spare { self.old.spare ≤ self.new.spare }
@@ -167,8 +167,8 @@ impl Row {
         self.gone = 0;
     }
 
-    /// Takes the weak pointers with value word 0 out of the list. No word changes. Takes no memory.
-    pub(crate) fn leave_dead<W: HeapWords>(&mut self, words: &mut W)
+    /// Takes the dead weak pointers, whose value word is 0, out of the list. No word changes. Takes no memory.
+    pub(crate) fn remove_dead<W: HeapWords>(&mut self, words: &mut W)
         requires { AreInside (W.words words.old) self.old.list }
         ensures words { W.words words.new ≡ W.words words.old }
         ensures list { self.new.list ≡ alive_of (W.words words.old) self.old.list }
@@ -200,7 +200,7 @@ impl Row {
     }
 }
 
-// Flags the entries with value word 0 as left.
+// Flags the listed entries with value word 0 as left. No word changes.
 fn flag_dead<W: HeapWords>(entries: &mut [Entry], words: &mut W)
     requires { AreInside (W.words words.old) (listed entries.old) }
     ensures words { W.words words.new ≡ W.words words.old }

@@ -4,16 +4,17 @@
 //! names. So a closing finds them without looking at segments, and deaths come in the order in which finalisers are queued.
 //!
 //! The list is stored in rows, one for each maker (`row`). A maker's names only grow, so weak pointers join at the ends of
-//! rows, and binary search finds them when they leave. A stop takes time for weak pointers that join and leave, and for a row
-//! only once more than half of it has left. Only a closing, which judges each, and the report go through the list.
+//! rows, and binary search finds them when they leave. A stop takes time for weak pointers that join and leave. It takes time
+//! for a row only once more than half of it has left, or when its memory is too small for those that join. Only a closing,
+//! which judges each, and the report go through the list.
 //!
 //! A stop may not run out of memory half way. So room for new weak pointers, and for a death of each, is made before. Since
 //! any row may be joined next, each row has the whole of that room. Beside the rows there are five lists: the list in one
 //! piece for a closing, the waiting weak pointers, the dying, the deaths, and the names for the report. Each has room for all
 //! weak pointers that were listed at the last closing, that joined since, or that may still join.
 //!
-//! Easy to get wrong: the contents of these five lists mean nothing between two calls, so each call clears them first. The
-//! exceptions are the deaths, and the names, which stay empty.
+//! Easy to get wrong: of these five lists only the deaths mean something between two calls. The names stay empty, and each
+//! call clears the other three before it uses them.
 ghost use Rattle.std.specs.Prelude.{ℕ, ◌≡◌, ◌≢◌, ◌⊎◌, ◌↔◌, ◌+◌, ◌<◌, ◌≤◌, List, [], length, vec_len, vec_capacity, Contains, IsTrue, OnOk, OnErr, min, slice_get, Some};
 ghost use Rattle.nmgc_limits.specs.declared.mutators.TheConstants.{MAKERS};
 ghost use Rattle.nmgc_world_spec.specs.Reach.{IsBefore, IsInOrder};
@@ -50,8 +51,7 @@ pub struct Death {
     pub finaliser: u64,
 }
 
-/// The list of weak pointers that have a block. Contracts see the list, its room for further weak pointers, and the last
-/// deaths.
+/// The list of weak pointers that have a block. Contracts see the list, its room for more weak pointers, and the last deaths.
 #[derive(Drop)]
 pub struct Weaks {
     // The rows, by maker.
@@ -104,7 +104,7 @@ fn row_of(maker: u8) -> usize
     usize::from(maker.min(MAKERS))
 }
 
-// Appends empty rows until no row is missing.
+// Appends empty rows until there are at least `ROWS`. Earlier rows stay. After `NoMemory` rows may still be missing.
 fn add_missing_rows(alloc: Global, rows: &mut Vec<Row>) -> Result<(), NoMemory>
     ensures list { list_of rows.new.items ≡ list_of rows.old.items }
     ensures more { length rows.old.items ≤ length rows.new.items }
@@ -118,7 +118,7 @@ fn add_missing_rows(alloc: Global, rows: &mut Vec<Row>) -> Result<(), NoMemory>
     Ok(())
 }
 
-// Makes room for at least `more` further weak pointers in each row.
+// Makes room for `more` further weak pointers in each row. The lists stay and no room is lost, also after `NoMemory`.
 fn reserve_rows(rows: &mut [Row], more: usize) -> Result<(), NoMemory>
     ensures count { length rows.new ≡ length rows.old }
     ensures lists { (k : ℕ) (old new : RowShown) → slice_get rows.old k ≡ Some old → slice_get rows.new k ≡ Some new →
@@ -131,7 +131,7 @@ fn reserve_rows(rows: &mut [Row], more: usize) -> Result<(), NoMemory>
     Ok(())
 }
 
-// Appends the weak pointers of all rows, in order, to an empty vector that has room for them.
+// Appends the listed weak pointers of all rows, in order, to an empty vector that has room for them.
 fn list_rows(rows: &[Row], all: &mut Vec<OldWeak>)
     requires empty { all.old.items ≡ [] }
     requires none { vec_len all.old ≡ 0 }
@@ -144,8 +144,8 @@ fn list_rows(rows: &[Row], all: &mut Vec<OldWeak>)
     }
 }
 
-// Takes the weak pointers with value word 0 out of the rows.
-fn leave_dead<W: HeapWords>(rows: &mut [Row], words: &mut W)
+// Takes the dead weak pointers, whose value word is 0, out of the rows. No word changes.
+fn remove_dead<W: HeapWords>(rows: &mut [Row], words: &mut W)
     requires { AreInside (W.words words.old) (list_of rows.old) }
     ensures words { W.words words.new ≡ W.words words.old }
     ensures count { length rows.new ≡ length rows.old }
@@ -153,7 +153,7 @@ fn leave_dead<W: HeapWords>(rows: &mut [Row], words: &mut W)
         (new.list ≡ alive_of (W.words words.old) old.list) × IsInOrder (names_of new.list) × (old.spare ≤ new.spare) }
 {
     for row in rows {
-        row.leave_dead(words);
+        row.remove_dead(words);
     }
 }
 
@@ -263,7 +263,7 @@ impl Weaks {
     }
 
     /// Returns an upper bound on the number of listed weak pointers that this maker made. Takes no memory, and constant time.
-    pub fn count(&self, maker: u8) -> usize
+    pub fn count_bound(&self, maker: u8) -> usize
         ensures { count_made_by maker self.now.list ≤ result }
     {
         let number = row_of(maker);
@@ -274,14 +274,14 @@ impl Weaks {
         }
     }
 
-    /// Returns the weak pointers that died at the last closing, in order of names. Takes no memory.
+    /// Returns the deaths of the last closing, in order of names: weak pointers with their finalisers. Takes no memory.
     pub fn deaths(&self) -> &[Death]
         ensures { result.now ≡ self.now.deaths }
     {
         self.deaths.as_slice()
     }
 
-    /// Turns this list of weak pointers into the list of their names, in order, in the memory `place`. Takes no other memory.
+    /// Turns the list into the list of its weak pointers' names, in order, in the memory `place`. Takes no other memory.
     pub fn into_names(self, place: ListMemory<Name>) -> List<Name>
         ensures { result ≡ names_of self.list }
     {
@@ -300,13 +300,13 @@ impl Weaks {
         for weak in list {
             names.push_reserved(weak.weak);
         }
-        List::in_place(names, place)
+        List::from_vec_in(names, place)
     }
 
-    /// If the list has a weak pointer at this address, and its value word is 0, takes it out of the list: it was finalised
-    /// since the last stop. The name word has to be its name, by which it is found. The rest of the list, room, deaths and
-    /// words stay. Takes no memory, and logarithmic time, or time for a row if over half has left.
-    pub fn leave_at<W: HeapWords>(&mut self, words: &mut W, at: Address)
+    /// Takes the weak pointer at the address `at` out of the list, if it is listed and its value word is 0. It is found by
+    /// the name in the name word at `at`: if it is listed, this has to be its name. The rest of the list, the room, the
+    /// deaths and the words stay. Takes no memory, and logarithmic time, or time for its row if over half of that has left.
+    pub fn remove_if_dead<W: HeapWords>(&mut self, words: &mut W, at: Address)
         requires inside { value_place at.0 < length (W.words words.old) }
         requires named { IsNamedAt (W.words words.old) at.0 self.old.list }
         ensures words { W.words words.new ≡ W.words words.old }
@@ -325,12 +325,12 @@ impl Weaks {
         let number = row_of(weak.maker);
         if number < count {
             let row = &mut self.rows[number];
-            row.leave(weak, at);
+            row.remove(weak, at);
         }
     }
 
-    /// Takes the weak pointers with value word 0 out of the list. The order of the rest, the room, the deaths and the words
-    /// stay. Takes no memory, and time for the whole list.
+    /// Takes the dead weak pointers, whose value word is 0, out of the list. The order of the rest, the room, the deaths and
+    /// the words stay. Takes no memory, and time for the whole list.
     pub fn leave<W: HeapWords>(&mut self, words: &mut W)
         requires { AreInside (W.words words.old) self.old.list }
         ensures words { W.words words.new ≡ W.words words.old }
@@ -339,19 +339,19 @@ impl Weaks {
         ensures spare { self.new.spare ≡ self.old.spare }
         ensures deaths { self.new.deaths ≡ self.old.deaths }
     {
-        leave_dead(self.rows.as_mut_slice(), words);
+        remove_dead(self.rows.as_mut_slice(), words);
     }
 
-    /// Closes a cycle: some weak pointers die, and the rest keep their parts.
+    /// Closes a cycle: finds the snapshot's weak pointers that die, and marks their finalisers and the parts of the rest.
     ///
-    /// A weak pointer of the snapshot is kept if its key is nil, a number, g or marked. It is marked, with its value, its
-    /// finaliser and all that is reachable from these along strong fields. This repeats as long as further keys become
-    /// marked. The rest of the snapshot's weak pointers die: their value words become 0, they leave the list, and they are
-    /// the deaths. Their finalisers are marked with all that is reachable from them. This is the marking machine's closing.
-    /// Weak pointers made since the snapshot stay, and no other word changes. The gate isn't passed. Takes no memory.
-    ///
-    /// Takes time for the weak pointers of the list and a logarithm, and for the marked objects, however the weak pointers
-    /// revive one another (`revive`).
+    /// Requires the conditions of a closing (`CanResolve`), and room to mark. A listed weak pointer of the snapshot is kept
+    /// if its key is nil, a number, g or marked. It is marked, with its value, its finaliser and all that is reachable from
+    /// these along strong fields. This repeats as long as further keys become marked. The rest of the snapshot's weak
+    /// pointers die: their value words become 0, they leave the list, and they are the deaths. Their finalisers are marked
+    /// with all that is reachable from them. This is the marking machine's closing. Weak pointers made since the snapshot
+    /// stay, and no other word changes. The gate isn't passed. Takes no memory. Takes time for the listed weak pointers and
+    /// the objects that it marks, times a logarithm, and for these objects' fields, however weak pointers revive one another
+    /// (`revive`).
     pub fn resolve<W: HeapWords>(
         &mut self,
         marker: &mut Marker,

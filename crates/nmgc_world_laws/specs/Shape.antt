@@ -18,8 +18,7 @@ abbrev pub tag_of : Node → ℕ
 tag_of (Con tag values) = tag
 tag_of _ = 0
 
--- the number of fields of an object. A thunk's result counts beside its free variables, a weak pointer has three also when it
--- is dead, and a stack's number is its size
+-- the number of fields: a thunk's result counts beside its free variables, a dead weak pointer has three, a stack its size
 abbrev pub part_count : Node → ℕ
 part_count (Con tag values) = length values
 part_count (Var v) = 1

@@ -139,8 +139,7 @@ next_finaliser w m dest = (with_state w m (with_finaliser (state_of w m) dest), 
 abbrev pub same_reply : Value → Value → Reply
 same_reply a b = if is_same a b then Yes else No
 
--- the step of the world: the next world and the reply to a command. It is the whole behaviour of the reference heap. A
--- refusal changes nothing.
+-- the step of the world, its whole behaviour: the next world and the reply to a command. A refusal changes nothing.
 abbrev pub step : World → ℕ → Command → World × Reply
 step w m (Num dest number) = (with_register w m dest (value.Number number), Fine)
 step w m (Nil dest) = (with_register w m dest value.Nil, Fine)

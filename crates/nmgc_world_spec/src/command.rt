@@ -132,7 +132,7 @@ pub enum Command {
     Full,
 }
 
-// Written by hand, so that each drop of a command calls this. A derived drop is written out, and proved, at each call.
+// Written by hand, so that each drop of a command calls this. A derived drop is written out, and proved, at each drop.
 impl Drop for Command {
     fn drop(self) {
         match self {

@@ -12,7 +12,7 @@ pub struct MutatorState {
     pub nodes: List<Node>,
 }
 
-// Written by hand, so that each drop of a state calls this function. A derived drop is written out, and proved, at each call.
+// Written by hand, so that each drop of a state calls this. A derived drop is written out, and proved, at each drop.
 impl Drop for MutatorState {
     fn drop(self) {
         let MutatorState {

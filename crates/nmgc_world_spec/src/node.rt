@@ -1,8 +1,7 @@
 //! Nodes: the objects of the world, each at a name.
 //!
-//! The six kinds differ in the changes that a mutator may make, and the collector has to allow for each. A constructor never
-//! changes. A variable and an array are written field by field. A thunk is updated once. A weak pointer dies once. A stack
-//! belongs to the mutator that made it.
+//! Six kinds differ in the changes that mutators make; the collector allows for each. Constructors never change. Variables
+//! and arrays change field by field. Thunks are updated once. Weak pointers die once. Only its maker changes a stack.
 ghost use Rattle.std.specs.Prelude.{◌≡◌};
 
 use crate::Value;
@@ -59,7 +58,7 @@ pub enum Node {
     },
 }
 
-// Written by hand, so that each drop of a node calls this function. A derived drop is written out, and proved, at each call.
+// Written by hand, so that each drop of a node calls this. A derived drop is written out, and proved, at each drop.
 impl Drop for Node {
     fn drop(self) {
         match self {

@@ -8,8 +8,7 @@ use crate::{Command, Operand};
 use nmgc_limits::REGISTERS;
 
 impl Command {
-    /// Returns whether all registers of the command exist. Takes no memory. Takes constant time, except that the operands of
-    /// a constructor or a thunk are checked one by one.
+    /// Returns whether all registers of the command exist. Takes no memory, and constant time for each operand.
     pub fn has_registers(&self) -> bool
         ensures { IsTrue result ↔ HasRegisters self.now }
     {
@@ -18,36 +17,33 @@ impl Command {
             Command::Stack { dest, .. } | Command::NextFin { dest } => is_register(*dest),
             Command::Mov { dest, value }
             | Command::Var { dest, value }
-            | Command::Arr { dest, value, .. } => is_register(*dest) && is_operand(*value),
-            Command::Con { dest, fields, .. } => is_register(*dest) && are_operands(fields.items()),
-            Command::Thunk { dest, free } => is_register(*dest) && are_operands(free.items()),
+            | Command::Arr { dest, value, .. } => is_register(*dest) && is_valid(*value),
+            Command::Con { dest, fields, .. } => is_register(*dest) && are_valid(fields.items()),
+            Command::Thunk { dest, free } => is_register(*dest) && are_valid(free.items()),
             Command::Weak {
                 dest,
                 key,
                 value,
                 finaliser,
             } => {
-                is_register(*dest)
-                    && is_operand(*key)
-                    && is_operand(*value)
-                    && is_operand(*finaliser)
+                is_register(*dest) && is_valid(*key) && is_valid(*value) && is_valid(*finaliser)
             }
             Command::Get { dest, object, .. }
             | Command::Force { dest, object }
             | Command::Pop { dest, object }
             | Command::Deref { dest, object }
-            | Command::Finalise { dest, object } => is_register(*dest) && is_operand(*object),
+            | Command::Finalise { dest, object } => is_register(*dest) && is_valid(*object),
             Command::Cas {
                 object,
                 index: _,
                 expected,
                 value,
-            } => { is_operand(*object) && is_operand(*expected) && is_operand(*value) }
+            } => { is_valid(*object) && is_valid(*expected) && is_valid(*value) }
             Command::Set { object, value, .. }
             | Command::Update { object, value }
-            | Command::Push { object, value } => is_operand(*object) && is_operand(*value),
-            Command::Show { value } => is_operand(*value),
-            Command::Same { left, right } => is_operand(*left) && is_operand(*right),
+            | Command::Push { object, value } => is_valid(*object) && is_valid(*value),
+            Command::Show { value } => is_valid(*value),
+            Command::Same { left, right } => is_valid(*left) && is_valid(*right),
             Command::Yield | Command::Collect | Command::Full => true,
         }
     }
@@ -61,7 +57,7 @@ fn is_register(register: u8) -> bool
 }
 
 // Whether the operand is a register that exists or the shared array.
-fn is_operand(operand: Operand) -> bool
+fn is_valid(operand: Operand) -> bool
     ensures { IsTrue result ↔ IsOperand operand }
 {
     match operand {
@@ -71,8 +67,8 @@ fn is_operand(operand: Operand) -> bool
 }
 
 // Whether each operand is a register that exists or the shared array.
-fn are_operands(operands: &[Operand]) -> bool
+fn are_valid(operands: &[Operand]) -> bool
     ensures { IsTrue result ↔ All IsOperand operands.now }
 {
-    operands.iter().all(|operand| is_operand(*operand))
+    operands.iter().all(|operand| is_valid(*operand))
 }

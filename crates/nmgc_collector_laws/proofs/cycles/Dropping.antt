@@ -47,12 +47,7 @@ module _ (layout : Layout) (earlier : List World) (began w : World) (allocation 
       let was = f.lies b.number b.block name e in
       let both : Some name ≡ Some p.name = sym was.0 ∙ b.lies in
       let is : name ≡ p.name = cc in
-      inl (inl (inr (record {
-        number = b.number;
-        block = b.block;
-        lies = e ∙ both;
-        at = cc (b.at, was.1);
-      })))
+      inl (inl (inr (record { number = b.number; block = b.block; lies = e ∙ both; at = cc (b.at, was.1) })))
 
   decide : (p : Place) → Contains places p → Stays p ⊎ Goes p
   decide p d = elim (sound p d) [

@@ -108,12 +108,7 @@ module _ (c : Cycle) (o : Opening) (before words : List ℕ) (v : Seen) (mutator
   goes_on : (t : State) × GoesOn c o words v h mutators t
   goes_on = (
     core,
-    record {
-      machine = machine;
-      marks = ap (λ (x : State). marks_of x) all.1.rest;
-      remembered = remembered;
-      low = low;
-    },
+    record { machine = machine; marks = ap (λ (x : State). marks_of x) all.1.rest; remembered = remembered; low = low },
   )
 
 pub machine_goes_on : MachineGoesOn

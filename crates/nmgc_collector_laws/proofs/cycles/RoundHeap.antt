@@ -104,11 +104,7 @@ module _ (layout : Layout) (s t : State) (o : Opening) (before after : List ℕ)
         let to = new_one.to in
         inr (subst (IsBornPlace layout s.world t.world) (sym is) (record {
           young = (subst (λ (w : World). node_of w x.name ≡ None) r.began new_one.unknown, (represents.named (place_of x) (born_there x is_born)).known);
-          nursery = rw (← r.layout_is) (record {
-            exists = maker;
-            from = from;
-            before = omega (arith, from, to);
-          });
+          nursery = rw (← r.layout_is) (record { exists = maker; from = from; before = omega (arith, from, to) });
         }))
   ]
 

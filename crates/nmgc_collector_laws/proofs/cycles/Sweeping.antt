@@ -1,5 +1,5 @@
 -- A cycle is closed and begins to sweep, and a promotion touches no segment that waits.
-use Rattle.nmgc_collector_laws.proofs.Vocabulary.{ℕ, ◌≡◌, ◌≢◌, ◌↔◌, ◌<◌, List, [], ◌∷◌, length, map, refl, sym, ap, subst, ◌∙◌, arith, inl, inr, Some, cond, true, false, Bool, Contains, slice_get, get_or-eq_default, cases_lt, length-map, Name, World, Lists, nothing_in, Layout, carried, epoch_of, Segment, IsSegment, IsMarked, mark_of, free_segment, Stands, mark-map, nth, Segments, HasNumber, IsSegments, IsWaiting, AllocState, Cells, IsIn, cells, name_in, StandsFor, carried_in, carried_over, placed_size, nth-map, used_exists, PlacesEach, IsDeadIn, IsKeptIn, IsKeptObject, Cycle, WaitsWhole, Counts, AreSettled, IsSettledByte, IsHadSoFar, IsFreedSoFar, SameWait, all_placing_waits, still_noted, ClosedCycleSweeps, HasPlaced, MarkedWait, PlacedWait, SweepingStays, SettledStays, all_carried, ◌==◌, slice_index}
+use Rattle.nmgc_collector_laws.proofs.Vocabulary.{ℕ, ◌≡◌, ◌≢◌, ◌↔◌, ◌<◌, List, [], ◌∷◌, length, map, refl, sym, ap, subst, ◌∙◌, arith, inl, inr, Some, cond, true, false, Bool, Contains, slice_get, get_or-eq_default, cases_lt, length-map, Name, World, Lists, nothing_in, Layout, carried, epoch_of, Segment, IsSegment, IsMarked, mark_of, free_segment, Stands, mark-map, nth, Segments, HasNumber, IsSegments, IsWaiting, AllocState, Cells, IsIn, cells, name_in, StandsFor, carried_in, carried_over, placed_size, nth-map, used_exists, PlacesEach, IsDeadIn, IsKeptIn, IsKeptObject, Cycle, WaitsWhole, Counts, AreSettled, IsSettledByte, IsListedSoFar, IsFreedSoFar, SameWait, all_placing_waits, still_noted, ClosedCycleSweeps, HasPlaced, MarkedWait, PlacedWait, SweepingStays, SettledStays, all_carried, ◌==◌, slice_index}
 use Rattle.nmgc_segment.specs.declared.state.State.TheVariants as stands
 
 -- a byte that was carried over is settled
@@ -66,7 +66,7 @@ none_freed c allocation whole freed none name = (
 )
 
 none_had : (c : Cycle) (allocation : AllocState) → WaitsWhole c allocation → (had : List Name) → had ≡ [] → (name : Name) → Contains had name ↔
-    IsHadSoFar c allocation name
+    IsListedSoFar c allocation name
 none_had c allocation whole had none name = (
   λ d. absurd (nothing_in name (subst (λ (l : List Name). Contains l name) none d)),
   λ f. absurd (f.3 (whole.all f.0 f.2)),
@@ -135,7 +135,7 @@ module _ (old new : Segments) (words after : List ℕ) (allocation placed : Allo
     λ f. (f.0, f.1, f.2, λ is. f.3 (ap (λ (x : Cells). x.state) (same.same f.0 is) ∙ is), f.4, f.5),
   )
 
-  listing_on : (c : Cycle) (name : Name) → IsHadSoFar c allocation name ↔ IsHadSoFar c placed name
+  listing_on : (c : Cycle) (name : Name) → IsListedSoFar c allocation name ↔ IsListedSoFar c placed name
   listing_on c name = (
     λ f. (f.0, f.1, f.2, λ is. f.3 (ap (λ (x : Cells). x.state) (sym (same.back f.0 is)) ∙ is), f.4),
     λ f. (f.0, f.1, f.2, λ is. f.3 (ap (λ (x : Cells). x.state) (same.same f.0 is) ∙ is), f.4),

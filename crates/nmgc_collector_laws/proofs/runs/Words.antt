@@ -217,11 +217,7 @@ stands new = record { total = refl; count = refl; names = names; fresh = refl; s
     names number block n lies = let is = only_block number block n lies in subst IsName is.2 (lit≤ tt, lit< tt, λ m. absurd (omega (arith, m)))
 
 none_listed : ListsWeaks layout places worked.world []
-none_listed = record {
-  ordered = tt;
-  sound = λ p c. absurd (none_in p c);
-  complete = λ p weak. absurd (no_weak p.name weak.1.0 weak.1.1);
-}
+none_listed = record { ordered = tt; sound = λ p c. absurd (none_in p c); complete = λ p weak. absurd (no_weak p.name weak.1.0 weak.1.1) }
 
 in_words : NewStands → HoldsAtStop layout last object_words object_segments (object_mutator ∷ []) []
 in_words new = record {

@@ -17,10 +17,7 @@ StandsInPace Paced script c s = StandsForState Paced IsEmptied script c s
 -- the view of the mutators is the collector's
 pub are_shown : (Paced : Cycle → State → CollectorSeen → Type 0) (script : Script) (c : Collector) (s : State) → StandsInPace Paced script c s →
     AreShown c.heap.segments.layout (seen c) c.mutators.items
-are_shown Paced script c s h = record {
-  are = refl;
-  each = λ k m e. let own = h.kept.own k m e in (own.number, own.layout, own.whole);
-}
+are_shown Paced script c s h = record { are = refl; each = λ k m e. let own = h.kept.own k m e in (own.number, own.layout, own.whole) }
 
 -- while a cycle marks, its marker may finish, with the heap at rest
 module _ (Paced : Cycle → State → CollectorSeen →

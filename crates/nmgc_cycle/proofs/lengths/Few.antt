@@ -40,10 +40,7 @@ same_few N script c d stops rounds progress collect fresh few =
     let same = ap (phase_left script.config.segments) progress in
     leaves_few N N script c d stops rounds (omega (arith, same)) (λ nothing not. (
       nothing,
-      record {
-        not_asked = collect ∙ not.not_asked;
-        not_filled = λ some. let less = not.not_filled some in omega (arith, fresh, less);
-      },
+      record { not_asked = collect ∙ not.not_asked; not_filled = λ some. let less = not.not_filled some in omega (arith, fresh, less) },
     )) few
 
 -- before the first stop

@@ -1,5 +1,5 @@
 -- A cycle, or a full one, is asked for exactly if a slice did the command for it.
-use Rattle.nmgc_cycle.proofs.Vocabulary.{ℕ, zero, suc, ◌≡◌, ◌<◌, ◌↔◌, List, [], ◌∷◌, length, map, take, refl, sym, ap, ◌∙◌, inl, inr, arith, Bool, true, false, IsTrue, Some, slice_get, ◌||◌, list_any, cases_lt, Command, Yield, Collect, Full, Mutator, SliceEnd, IsYield, GoesOn, IsLast, Ended, is_collect, is_full, or_true, not_true}
+use Rattle.nmgc_cycle.proofs.Vocabulary.{ℕ, zero, suc, ◌≡◌, ◌<◌, List, [], ◌∷◌, length, map, take, refl, sym, ap, ◌∙◌, inl, inr, arith, Bool, true, false, Some, slice_get, ◌||◌, list_any, cases_lt, Command, Yield, Collect, Full, Mutator, SliceEnd, IsYield, GoesOn, IsLast, Ended, is_collect, is_full, or_true, is_asking, is_asking_full}
 use Rattle.nmgc_mutator.specs.declared.mutator.SliceEnd.TheVariants as ending
 
 -- a command that ends no slice makes no request
@@ -49,33 +49,23 @@ module _ (such : Command → Bool) (plain : (c : Command) → (IsYield c → ⊥
 
 -- the request of a slice, by its end
 
-pub asks_by_end : (program : List Command) (most done : ℕ) (n : Mutator) (end : SliceEnd) (asks : Bool) → Ended program most done n end →
-    IsTrue asks ↔ (end ≡ ending.Collect) → asks ≡ list_any is_collect (take done program)
-asks_by_end program most done n ending.Slice asks h is = not_true asks (λ e. let bad : ending.Slice ≡ ending.Collect = is.0 e in cc) ∙
-    sym (none_goes is_collect no_yield program done h.0)
-asks_by_end program most done n ending.Program asks h is = not_true asks (λ e. let bad : ending.Program ≡ ending.Collect = is.0 e in cc) ∙
-    sym (none_goes is_collect no_yield program done h.0)
-asks_by_end program most done n ending.Yield asks h is = not_true asks (λ e. let bad : ending.Yield ≡ ending.Collect = is.0 e in cc) ∙
-    sym (last_asks_not is_collect no_yield program done Yield h refl)
-asks_by_end program most done n ending.Collect asks h is = is.1 refl ∙ sym (last_asks is_collect no_yield program done Collect refl h)
-asks_by_end program most done n ending.Full asks h is = not_true asks (λ e. let bad : ending.Full ≡ ending.Collect = is.0 e in cc) ∙
-    sym (last_asks_not is_collect no_yield program done Full h refl)
-asks_by_end program most done n (ending.Nursery need left) asks h is =
-    not_true asks (λ e. let bad : ending.Nursery need left ≡ ending.Collect = is.0 e in cc) ∙ sym (none_goes is_collect no_yield program done h.0)
+pub asks_by_end : (program : List Command) (most done : ℕ) (n : Mutator) (end : SliceEnd) → Ended program most done n end →
+    is_asking end ≡ list_any is_collect (take done program)
+asks_by_end program most done n ending.Slice h = sym (none_goes is_collect no_yield program done h.0)
+asks_by_end program most done n ending.Program h = sym (none_goes is_collect no_yield program done h.0)
+asks_by_end program most done n ending.Yield h = sym (last_asks_not is_collect no_yield program done Yield h refl)
+asks_by_end program most done n ending.Collect h = sym (last_asks is_collect no_yield program done Collect refl h)
+asks_by_end program most done n ending.Full h = sym (last_asks_not is_collect no_yield program done Full h refl)
+asks_by_end program most done n (ending.Nursery need left) h = sym (none_goes is_collect no_yield program done h.0)
 
-pub full_by_end : (program : List Command) (most done : ℕ) (n : Mutator) (end : SliceEnd) (asks : Bool) → Ended program most done n end →
-    IsTrue asks ↔ (end ≡ ending.Full) → asks ≡ list_any is_full (take done program)
-full_by_end program most done n ending.Slice asks h is = not_true asks (λ e. let bad : ending.Slice ≡ ending.Full = is.0 e in cc) ∙
-    sym (none_goes is_full no_yield_full program done h.0)
-full_by_end program most done n ending.Program asks h is = not_true asks (λ e. let bad : ending.Program ≡ ending.Full = is.0 e in cc) ∙
-    sym (none_goes is_full no_yield_full program done h.0)
-full_by_end program most done n ending.Yield asks h is = not_true asks (λ e. let bad : ending.Yield ≡ ending.Full = is.0 e in cc) ∙
-    sym (last_asks_not is_full no_yield_full program done Yield h refl)
-full_by_end program most done n ending.Collect asks h is = not_true asks (λ e. let bad : ending.Collect ≡ ending.Full = is.0 e in cc) ∙
-    sym (last_asks_not is_full no_yield_full program done Collect h refl)
-full_by_end program most done n ending.Full asks h is = is.1 refl ∙ sym (last_asks is_full no_yield_full program done Full refl h)
-full_by_end program most done n (ending.Nursery need left) asks h is =
-    not_true asks (λ e. let bad : ending.Nursery need left ≡ ending.Full = is.0 e in cc) ∙ sym (none_goes is_full no_yield_full program done h.0)
+pub full_by_end : (program : List Command) (most done : ℕ) (n : Mutator) (end : SliceEnd) → Ended program most done n end →
+    is_asking_full end ≡ list_any is_full (take done program)
+full_by_end program most done n ending.Slice h = sym (none_goes is_full no_yield_full program done h.0)
+full_by_end program most done n ending.Program h = sym (none_goes is_full no_yield_full program done h.0)
+full_by_end program most done n ending.Yield h = sym (last_asks_not is_full no_yield_full program done Yield h refl)
+full_by_end program most done n ending.Collect h = sym (last_asks_not is_full no_yield_full program done Collect h refl)
+full_by_end program most done n ending.Full h = sym (last_asks is_full no_yield_full program done Full refl h)
+full_by_end program most done n (ending.Nursery need left) h = sym (none_goes is_full no_yield_full program done h.0)
 
 -- two lists with equal tests of their items
 pub same_any : {A B : Type 0} (f : A → Bool) (g : B → Bool) (xs : List A) (ys : List B) → length xs ≡ length ys →

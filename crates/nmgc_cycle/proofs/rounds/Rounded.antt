@@ -59,11 +59,7 @@ module _ (script : Script) (c new : Collector) (o : Opening) (x : IsOver script 
         SweepsBeside script.config.quota (s script c new o x).progress (s script c new o x).allocation allocation →
         IsRound script.config (s script c new o x) (reported script c new o x) (rows script c new o x) (t script c new o x allocation)
     is_round allocation swept = record {
-      history = record {
-        lengths = cc (reported_is, same_lengths x.did.done, slices_are);
-        order = order;
-        legal = legal;
-      };
+      history = record { lengths = cc (reported_is, same_lengths x.did.done, slices_are); order = order; legal = legal };
       swept = swept;
       rest = ap (λ (world : World). with_world script c new o x world allocation) world_is;
     }

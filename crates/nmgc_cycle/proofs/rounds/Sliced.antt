@@ -82,12 +82,12 @@ module _ (script : Script) (c : Collector) (run : Run) (limits : IsInLimits scri
         commands = h.slice.commands;
         replies = ap (λ (u : Mutator). u.replies.items) x.2 ∙ h.slice.did.replies ∙ ap (λ (u : Mutator). u.replies.items ++ map (λ (p : Done). p.1) d) old;
         position = omega (arith, is, many, now);
-        end = h.slice.end;
+        end = x.0.end;
         ended =
-            subst (λ (u : Mutator). Ended (left_at script c.positions.items k) script.config.slice (length d) u h.slice.end) (sym x.2) (subst (λ (n : ℕ).
-            Ended (left_at script c.positions.items k) script.config.slice n x.0.mutator h.slice.end) (sym many) h.slice.ended);
-        turns = ap (λ (u : Mutator). u.turns) x.2 ∙ h.slice.turns ∙ ap (λ (u : Mutator). passed u.turns (tried x.0.done h.slice.end)) old ∙
-            ap (λ (n : ℕ). passed m.turns (tried n h.slice.end)) (sym many);
+            subst (λ (u : Mutator). Ended (left_at script c.positions.items k) script.config.slice (length d) u x.0.end) (sym x.2) (subst (λ (n : ℕ).
+            Ended (left_at script c.positions.items k) script.config.slice n x.0.mutator x.0.end) (sym many) h.slice.ended);
+        turns = ap (λ (u : Mutator). u.turns) x.2 ∙ h.slice.turns ∙ ap (λ (u : Mutator). passed u.turns (tried x.0.done x.0.end)) old ∙
+            ap (λ (n : ℕ). passed m.turns (tried n x.0.end)) (sym many);
         queue_room =
             let room = h.slice.did.room.queue in
             let before = ap (λ (u : Mutator). u.queue.spare) old in

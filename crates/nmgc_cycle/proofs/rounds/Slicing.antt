@@ -1,5 +1,5 @@
 -- The result of a round's slices: each mutator did the slice of the rule, and the seats have every part.
-use Rattle.nmgc_cycle.proofs.Vocabulary.{ℕ, ◌≡◌, ◌+◌, ◌-◌, ◌≤◌, List, [], ◌∷◌, length, map, take, refl, sym, ap, subst, ◌∙◌, arith, list_any, length-map, length-take-le, slice_get_within, Command, words_made, Layout, Round, Opening, DoneRow, FixedWord, AllReply, RoundSeat, alone, Mutator, SliceEnd, words_by, HasDone, passed, Ended, tried, Done, Config, slice_of, is_collect, is_full, Worker, HasWorkedOn, worker_of}
+use Rattle.nmgc_cycle.proofs.Vocabulary.{ℕ, ◌≡◌, ◌+◌, ◌-◌, ◌≤◌, List, [], ◌∷◌, length, map, take, refl, sym, ap, subst, ◌∙◌, arith, list_any, length-map, length-take-le, slice_get_within, Command, words_made, Layout, Round, Opening, DoneRow, FixedWord, AllReply, RoundSeat, alone, Mutator, SliceEnd, words_by, HasDone, passed, Ended, tried, Done, Config, slice_of, is_collect, is_full, Worker, HasWorkedOn, asks_of, asks_full_of, worker_of}
 use Rattle.nmgc_round.specs.Seat.{seen}
 use Rattle.nmgc_mutator.specs.Ready.{rows_of}
 use Rattle.nmgc_mutator.specs.declared.mutator.SliceEnd.TheVariants as ending
@@ -35,11 +35,10 @@ pub record IsSlice (config : Config) (round : Round) (o : Opening) (k : ℕ) (le
   pub count : length done ≡ new.done
   pub within : new.done ≤ length left
   pub did : HasDone round (alone o k) new.seat m new.mutator done
-  pub end : SliceEnd
-  pub ended : Ended left config.slice new.done new.mutator end
-  pub turns : new.mutator.turns ≡ passed m.turns (tried new.done end)
-  pub asks : new.asks ≡ list_any is_collect (commands_of done)
-  pub asks_full : new.asks_full ≡ list_any is_full (commands_of done)
+  pub ended : Ended left config.slice new.done new.mutator new.end
+  pub turns : new.mutator.turns ≡ passed m.turns (tried new.done new.end)
+  pub asks : asks_of new ≡ list_any is_collect (commands_of done)
+  pub asks_full : asks_full_of new ≡ list_any is_full (commands_of done)
 
 pub slice_done : (config : Config) (round : Round) (o : Opening) (k : ℕ) (left : List Command) (m : Mutator) (seat : RoundSeat) (new : Worker) →
     seen seat ≡ alone o k → m.layout.nursery ≡ config.nursery → HasWorkedOn round config.slice left (worker_of (m, seat)) new → (done : List Done) ×
@@ -47,7 +46,7 @@ pub slice_done : (config : Config) (round : Round) (o : Opening) (k : ℕ) (left
 slice_done config round o k left m seat new is nursery h =
     let done : List Done = h.run.0 in
     let did : HasDone round (alone o k) new.seat m new.mutator done = subst (λ v. HasDone round v new.seat m new.mutator done) is h.run.2 in
-    let within : new.done ≤ length left = ended_within left config.slice new.done new.mutator h.end h.ended in
+    let within : new.done ≤ length left = ended_within left config.slice new.done new.mutator new.end h.ended in
     let first : commands_of done ≡ take new.done left = h.run.1 in
     let rows : rows_of (seen new.seat) ≡ did.rows = did.went.added in
     let made : words_by (rows_of (seen new.seat)) ≡ all_made (take new.done left) = ap words_by rows ∙ made_by _ did.rows done did.replied ∙
@@ -67,15 +66,14 @@ slice_done config round o k left m seat new is nursery h =
     ) in (
       done,
       record {
-        commands = first ∙ sym (slice_rule left config.slice config.nursery new.done new.mutator h.end h.ended h.most room);
+        commands = first ∙ sym (slice_rule left config.slice config.nursery new.done new.mutator new.end h.ended h.most room);
         first = first;
         count = sym (length-map done (λ (d : Done). d.0)) ∙ ap length first ∙ length-take-le new.done left within;
         within = within;
         did = did;
-        end = h.end;
         ended = h.ended;
         turns = h.turns;
-        asks = cc (asks_by_end left config.slice new.done new.mutator h.end new.asks h.ended h.asks, first);
-        asks_full = cc (full_by_end left config.slice new.done new.mutator h.end new.asks_full h.ended h.asks_full, first);
+        asks = cc (asks_by_end left config.slice new.done new.mutator new.end h.ended, first);
+        asks_full = cc (full_by_end left config.slice new.done new.mutator new.end h.ended, first);
       },
     )

@@ -1,5 +1,5 @@
 -- The beginning of a stop, whether the collector is new or did a round.
-use Rattle.nmgc_cycle.proofs.Vocabulary.{ℕ, ◌≡◌, ◌+◌, ◌<◌, ◌≤◌, ◌⊎◌, List, [], ◌∷◌, ◌++◌, length, drop, slice_index_or, arith, refl, sym, ap, subst, ◌∙◌, inl, inr, append-nil, Option, Some, None, Contains, IsSome, drop-drop, length-map, Command, Row, World, IsWorld, node_of, new_world, Node, Con, Var, Arr, Thunk, Weak, Stack, Parts, contains_head, flat_contains, is_some_of, nothing_in, place_in, new_is_world, Header, nursery_place, Mutator, numbers_of, AllocState, StandsFor, first_cells, Place, ListsWeaks, header_of, Stopped, IsStopped, young_base, CycleRow, RoundRows, StopRow, Script, AreNurseries, IsEmptied, IsPacedAfterRound, HoldsInCycle, Matches, ListsFinalised, finalised_of, IsInCourse, IsStateInCourse, IsPlaceAtStop, registers_of, queues_of, noted, Run, Turn, IsRun, IsTurn, AreRowsOf, last_state, with_turn, ends_of, nurseries_of, recorded_in, young_weaks_in, program_of, IsAble, IsInCycle, AreSoundBlocks, IsSoundRound, LieKnown, Plan, State, Progress, idle, marking, sweeping, start, plan_of, layout_of, Cycle, answered_count, IsStop, runs_are, rounds_stay, round_left, left_is_determined, round_is_remembered, states_are_sound, rounds_are_sound, opening_worked, start_programs, run_goes_on, last_is_of_turn, one_more_turn, AreNamed, named_first, Collector, AreFew, CanStop, IsFresh, HasWorked, Sweeps, seen, seen_mutator, report_cycles, IsInLimits, CanList, StandsStopped, places_of, segment_low, slice_get}
+use Rattle.nmgc_cycle.proofs.Vocabulary.{ℕ, ◌≡◌, ◌+◌, ◌<◌, ◌≤◌, ◌⊎◌, List, [], ◌∷◌, ◌++◌, length, drop, slice_index_or, arith, refl, sym, ap, subst, ◌∙◌, inl, inr, append-nil, Option, Some, None, Contains, IsSome, drop-drop, length-map, Command, Row, World, IsWorld, node_of, new_world, Node, Con, Var, Arr, Thunk, Weak, Stack, Parts, contains_head, flat_contains, is_some_of, nothing_in, place_in, new_is_world, Header, nursery_place, Mutator, numbers_of, AllocState, StandsFor, first_cells, Place, ListsWeaks, header_of, Stopped, IsStopped, young_base, CycleRow, RoundRows, StopRow, Script, AreNurseries, IsEmptied, IsPacedAfterRound, HoldsInCycle, Matches, ListsFinalised, finalised_of, IsInCourse, IsStateInCourse, IsPlaceAtStop, registers_of, queues_of, noted, Run, Turn, IsRun, IsTurn, AreRowsOf, last_state, with_turn, ends_of, nurseries_of, recorded_in, young_weaks_in, program_of, IsAble, IsInCycle, AreSoundBlocks, IsSoundRound, LieKnown, Plan, State, Progress, idle, marking, sweeping, start, plan_of, layout_of, Cycle, answered_count, IsStop, runs_are, rounds_stay, round_left, left_is_determined, round_is_remembered, states_are_sound, rounds_are_sound, opening_worked, start_programs, a_run_takes_a_further_round, last_is_of_turn, one_more_turn, AreNamed, named_first, Collector, AreFew, CanStop, IsFresh, HasWorked, Sweeps, seen, seen_mutator, report_cycles, IsInLimits, CanList, StandsStopped, places_of, segment_low, slice_get}
 use Rattle.nmgc_run_laws.specs.Sound.{AreEarlier}
 use Rattle.nmgc_world_spec.specs.declared.node.Kind.TheVariants as kind
 use Rattle.nmgc_segment.specs.declared.state.State.TheVariants as stands
@@ -234,7 +234,7 @@ module _ (script : Script) (c : Collector) (limits : IsInLimits script) (h : Has
       one_more_turn h.run turn h.after.before c.rows.stops (report_cycles c) h.after.agrees in
       record {
         run = with_turn h.run turn;
-        is_run = run_goes_on plan h.run turn h.after.is_run is;
+        is_run = a_run_takes_a_further_round plan h.run turn h.after.is_run is;
         agrees = subst (λ (r : List RoundRows). AreRowsOf (with_turn h.run turn) r (c.rows.stops ++ row ∷ []) (report_cycles c ++ cycles)) (sym h.after.rounds) reported;
         last = last_is_of_turn h.run turn;
       }

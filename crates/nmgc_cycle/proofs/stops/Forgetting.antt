@@ -120,10 +120,7 @@ module _ (first inbox after : List Receiver) (was now : List Mutator) (k : ℕ) 
 
 -- all mutators forgot
 pub all_forgot : (first after : List Receiver) (was now : List Mutator) → HaveForgottenSoFar (length was) first after was now → HaveForgotten was now
-all_forgot first after was now h = record {
-  count = h.count;
-  each = λ k m n e f. h.each k m n (slice_get_within was k m e) e f;
-}
+all_forgot first after was now h = record { count = h.count; each = λ k m n e f. h.each k m n (slice_get_within was k m e) e f }
 
 -- this number of mutators or more forgot
 pub forgot_enough : (n : ℕ) (first after : List Receiver) (was now : List Mutator) → length was ≤ n → HaveForgottenSoFar n first after was now →

@@ -13,10 +13,7 @@ pub closing_keeps : (quota : ℕ) (p : Progress) (s t : State) → ClosesOrWaits
 closing_keeps quota idle s t e = (keeps_itself s t e, ap (λ (x : State). x.allocation) e)
 closing_keeps quota (marking c) s t (inl e) = (keeps_itself s t e, ap (λ (x : State). x.allocation) e)
 closing_keeps quota (marking c) s t (inr h) = (
-  record {
-    number = ap (λ (x : State). x.number) h.0.rest;
-    left = ap (λ (x : State). x.left) h.0.rest;
-  },
+  record { number = ap (λ (x : State). x.number) h.0.rest; left = ap (λ (x : State). x.left) h.0.rest },
   ap (λ (x : State). x.allocation) h.0.rest,
 )
 closing_keeps quota (sweeping c closed) s t e = (keeps_itself s t e, ap (λ (x : State). x.allocation) e)
@@ -25,10 +22,7 @@ pub ending_keeps : (p : Progress) (s t : State) (cycles : List CycleRow) → End
 ending_keeps idle s t cycles e = (keeps_itself s t e.0, ap (λ (x : State). x.allocation) e.0)
 ending_keeps (marking c) s t cycles e = (keeps_itself s t e.0, ap (λ (x : State). x.allocation) e.0)
 ending_keeps (sweeping c closed) s t cycles (inl h) = (
-  record {
-    number = ap (λ (x : State). x.number) h.1.rest;
-    left = ap (λ (x : State). x.left) h.1.rest;
-  },
+  record { number = ap (λ (x : State). x.number) h.1.rest; left = ap (λ (x : State). x.left) h.1.rest },
   ap (λ (x : State). x.allocation) h.1.rest,
 )
 ending_keeps (sweeping c closed) s t cycles (inr h) = (keeps_itself s t h.1, ap (λ (x : State). x.allocation) h.1)

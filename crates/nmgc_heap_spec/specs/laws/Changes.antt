@@ -188,7 +188,6 @@ places_dropped layout earlier K places fewer w words drops r = record {
   zeros = r.zeros;
 }
 
--- there are more places
 pub places_added : (layout : Layout) (earlier : List World) (K : Name → Node → Type 0) (places more : List Place) (w : World) (words : List ℕ) →
     AddsPlaces layout earlier places more w words → Represents layout earlier K places w words → Represents layout earlier K more w words
 places_added layout earlier K places more w words adds r = record {

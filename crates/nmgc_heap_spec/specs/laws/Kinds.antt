@@ -1,6 +1,4 @@
--- The slots of a node of each kind, as its values.
---
--- `HasSlots` serves all kinds at once. A step of a command knows the kind and needs the values: these lemmas tie the two.
+-- The slots of a node of each kind, as its values: `HasSlots` serves all kinds, and a command's step needs the values.
 use Rattle.std.specs.Prelude.{◌≡◌, ◌⊎◌, ◌+◌, ◌-◌, ◌<◌, ◌≤◌, ◌∷◌, ◌++◌}
 use Rattle.nmgc_heap_spec.specs.laws.Vocabulary.{inl, inr, ℕ, zero, suc, List, [], length, map, replicate, refl, sym, subst, arith, slice_index, Some, None, slice_get, length-map, Value, Node, Con, Var, Arr, Thunk, Weak, Stack, Slot, holds, unset, unspecified, slots_of, fixed_slots, free_slots, Place, Means, Fills, HasSlots, AllMean, item_map, item_left}
 

@@ -1,7 +1,4 @@
--- After objects moved, the words still represent the world.
---
--- There are no steps here: every new word is a function of an old word, and each tracked object lies at one new place. So
--- each part of the claim follows from the same part before the move.
+-- After objects moved, the words still represent the world: each part of the claim follows from its part before.
 use Rattle.std.specs.Prelude.{◌≡◌, ◌<◌, ◌≤◌, ◌+◌, ◌*◌, ◌∷◌, ◌⊎◌}
 use Rattle.nmgc_heap_spec.specs.laws.Vocabulary.{ℕ, List, [], length, map, inl, inr, refl, sym, ap, subst, ◌∙◌, arith, Some, None, Contains, filter, nat_lt, IsSome, ltb-true, lt-ltb, cases_lt, slice_get_within, get_or-map, All-contains, Contains-append_left, Contains-append_right, Contains-append_cases, Name, Value, Nil, Number, Ref, Node, Weak, World, node_of, held_by, IsKnown, IsNodeOf, IsWorld, contains_head, contains_tail, at_some, is_some_of, contains_read, map_contains, filter_contains, contains_filter, contains_map, header_word, InNursery, nursery_place, Layout, HEADER_WORDS, Slot, holds, unset, unspecified, header_of, slots_of, free_slots, IsTracked, Place, AllMean, ListMeans, Fills, HasSlots, LiesWell, NoNode, IsNamed, IsObject, IsPlaced, Represents, Moved, Moves, StillSpoken, Copies, KeepsObject, new_place, old_place, settled, slice_index}
 use Rattle.nmgc_heap_spec.specs.laws.{Slots.slot_count, Slots.free_count, Slots.free_held, Slots.strong_held, Tracking.slot_tracked, Tracking.tracked_more}

@@ -85,7 +85,7 @@ fn young_mutator(alloc: Global, small: Layout) -> Result<Mutator, Fail>
     let mut registers = Vec::from_elem(alloc, NIL, REGISTERS as usize)?;
     registers[0] = 4160;
     registers[1] = 13;
-    mutator.registers = VecList::of(registers, ListMemory::new(alloc)?);
+    mutator.registers = VecList::from_vec(registers, ListMemory::new(alloc)?);
     mutator.queue = FinQueue::new(alloc);
     mutator.nursery = Nursery {
         base: 2080,

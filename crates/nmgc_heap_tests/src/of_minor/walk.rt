@@ -102,15 +102,12 @@ fn check_object(
     words: &[u64],
     sizes: &[u32],
     nurseries: &[Nursery],
-    free: usize,
     k: usize,
 )
     requires inside { k < length sizes.now }
     requires count { length nurseries.now ≡ layout.mutators }
-    ensures made { IsMade layout base words.now sizes.now nurseries.now k }
-    ensures after { free ≤ k }
+    ensures { IsMade layout base words.now sizes.now nurseries.now k }
 {
-    assert!(rt; free <= k);
     let at = base as usize + k;
     assert!(rt; at + 1 < words.len());
     let header = read_header(rt, words[at]);
@@ -137,7 +134,8 @@ pub fn check_objects(
     let mut free = 0;
     for k in 0..sizes.len() {
         if sizes[k] != 0 {
-            check_object(rt, layout, base, words, sizes, nurseries, free, k);
+            assert!(rt; free <= k);
+            check_object(rt, layout, base, words, sizes, nurseries, k);
             free = k + sizes[k] as usize;
         }
     }

@@ -78,7 +78,7 @@ pub(super) fn mutator_with(
     registers[0] = 72;
     registers[1] = 13;
     registers[3] = 184;
-    mutator.registers = VecList::of(registers, ListMemory::new(alloc)?);
+    mutator.registers = VecList::from_vec(registers, ListMemory::new(alloc)?);
     mutator.serial = 16;
     Ok(mutator)
 }

@@ -382,15 +382,14 @@ fn worked<R: Threads + Sync, G: Gate>(
     alloc: Global,
     words: Words,
     layout: Layout,
-    room: Vec<MutatorSeat>,
-    place: ListMemory<MutatorSeat>,
     read: &Read,
     gate: &G,
-)
+) -> Result<(), NoMemory>
     requires layout { IsLayout layout × (layout.words ≡ 16) }
     requires heap { IsEmptyHeap layout words }
-    requires room { (room.items ≡ []) × (layout.mutators ≤ vec_capacity room) }
 {
+    let room = Vec::with_capacity(alloc, usize::from(layout.mutators))?;
+    let place = ListMemory::new(alloc)?;
     nmgc_round::laws::empty_heap_opens();
     let opening = first_of(&layout);
     let Started {
@@ -400,6 +399,7 @@ fn worked<R: Threads + Sync, G: Gate>(
     } = Round::start(words, layout, false, &opening, room, place);
     let mut seats = mutators;
     work_all(rt, alloc, &round, seats.items_mut(), layout, read, gate);
+    Ok(())
 }
 
 fn two() -> Layout
@@ -417,10 +417,8 @@ fn both<R: Threads + Sync, G: Gate>(
 ) -> Result<(u64, u64), NoMemory> {
     let layout = two();
     let words = empty_heap(alloc, &layout)?;
-    let room = Vec::with_capacity(alloc, 2)?;
-    let place = ListMemory::new(alloc)?;
     let read = Read::new();
-    worked(rt, alloc, words, layout, room, place, &read, gate);
+    worked(rt, alloc, words, layout, &read, gate)?;
     Ok((read.of(0), read.of(1)))
 }
 

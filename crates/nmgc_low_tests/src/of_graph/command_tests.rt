@@ -47,8 +47,8 @@ fn looking_at_a_world(rt: HostRuntime) -> Result<(), Fail> {
     let change = Change::Update {
         value: Value::Number(5),
     };
-    assert!(rt; world.asked(0, &update) == Some((object, change)));
-    assert!(rt; world.asked(0, &five).is_none());
+    assert!(rt; world.asked_change(0, &update) == Some((object, change)));
+    assert!(rt; world.asked_change(0, &five).is_none());
     assert!(rt; world.compare(0, Operand::Register(0), Operand::Shared) == Reply::No);
     Ok(())
 }
@@ -58,7 +58,7 @@ fn looking_at_a_world(rt: HostRuntime) -> Result<(), Fail> {
 fn a_set_of_names(rt: HostRuntime) -> Result<(), Fail> {
     let world = World::new(rt.alloc(), 1)?;
     let shared = Name::SHARED;
-    let mut names = world.no_names()?;
+    let mut names = world.empty_set()?;
     assert!(rt; !names.contains(shared));
     assert!(rt; names.insert(shared));
     assert!(rt; !names.insert(shared));

@@ -14,8 +14,8 @@ one_more plan s [] turn are is = (is, tt)
 one_more plan s (first ∷ turns) turn are is = (are.0, one_more plan first.stop.state turns turn are.1 is)
 
 -- a run with one more round and its stop at its end is a run
-pub run_goes_on : RunGoesOn
-run_goes_on plan run turn is_run is = record { opening = is_run.opening; turns = one_more plan run.opening.state run.turns turn is_run.turns is }
+pub a_run_takes_a_further_round : RunGoesOn
+a_run_takes_a_further_round plan run turn is_run is = record { opening = is_run.opening; turns = one_more plan run.opening.state run.turns turn is_run.turns is }
 
 -- its last state is the state after that stop
 pub last_is_of_turn : LastIsOfTurn

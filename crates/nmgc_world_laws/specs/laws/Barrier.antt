@@ -1,5 +1,4 @@
--- The deletion barrier on one node: a change owes each value that it takes out of a strong field, and puts only its own
--- values into strong fields.
+-- The deletion barrier on one node: a change owes each value that it takes out of a strong field, and stores only its own.
 use Rattle.std.specs.Prelude.{◌≡◌, ◌-◌, ◌∷◌, ◌++◌, ◌⊎◌}
 use Rattle.nmgc_world_laws.specs.laws.Vocabulary.{ℕ, List, [], zero, suc, length, set, refl, ap, arith, Option, Some, None, Bool, true, false, cond, eqb, ltb, inl, inr, slice_get, All, Contains, IfSome, option_to_list, All-cons, All-nil, All-head, All-set, All-push, All-take, Name, Value, Node, Con, Var, Arr, Thunk, Weak, Stack, Reply, Fine, Yes, No, NoField, StackFull, StackEmpty, Change, is_same, given_or, field_read, result_read, exchanged_at, changed, last_of, stack_pushed, stack_popped, given, strong_fields, field_held, if_same, owed_in, free_held, top_held, strong_at, Fields, IsLater, item_has, contains_at, place_of, contains_option, kept_or_held, kept_or_last, slice_get-append, ne_eqb}
 use Rattle.nmgc_world_spec.specs.declared.change.Change.TheVariants as change

@@ -49,7 +49,7 @@ loop-number-preserved c =
     }
 
 pub returns-clause-lines : goal.returns-clause-lines
-returns-clause-lines c = λ k m e. subst (λ (inbox : List Receiver). IsLined inbox k m.sender) (sym (c.new-2.ensures ∙ c.of.ensures)) (c.loop-number.invariant.lines k m e)
+returns-clause-lines c = λ k m e. subst (λ (inbox : List Receiver). IsLined inbox k m.sender) (sym (c.new-2.ensures ∙ c.from_vec.ensures)) (c.loop-number.invariant.lines k m e)
 
 pub returns-clause-unsent : goal.returns-clause-unsent
 returns-clause-unsent c = c.loop-number.invariant.unsent

@@ -4,13 +4,13 @@ use Rattle.nmgc_cycle.proofs.stop_laws.a_beginning_leads.Goals as goal
 pub returns-clause-starting : goal.returns-clause-starting
 returns-clause-starting c = starting_leads (record {
   prepares = c.a_stop_is_prepared.ensures.prepared;
-  begins = c.prepared_heaps_begin.ensures;
+  begins = c.marking_begins_on_prepared_heaps.ensures;
   stop = c.a_stop_is_prepared.ensures.begins;
-  marked = c.the_heap_goes_on.ensures.marked;
-  marks = c.the_marker_leads_a_cycle.ensures.snapshot;
+  marked = c.the_heap_stays_represented.ensures.marked;
+  marks = c.a_cycle_marks_after_each_call.ensures.snapshot;
   noted = c.start_notes_segments.ensures;
   left = c.unswept_segments_wait.ensures.stays;
-  waits = c.a_closed_cycle_sweeps.ensures.marked;
+  waits = c.waiting_segments_stay.ensures.marked;
   pace = c.the_pace_is_kept.ensures.begins;
   course = c.cycles_are_in_course.ensures.begins;
 })
@@ -19,4 +19,4 @@ pub returns-clause-leads : goal.returns-clause-leads
 returns-clause-leads c = beginning_leads (returns-clause-starting c)
 
 pub returns-clause-ready : goal.returns-clause-ready
-returns-clause-ready c = begin_ready c.a_stop_is_prepared.ensures.prepared c.prepared_heaps_begin.ensures
+returns-clause-ready c = begin_ready c.a_stop_is_prepared.ensures.prepared c.marking_begins_on_prepared_heaps.ensures

@@ -4,11 +4,11 @@ pub returns : goal.returns
 returns c = record {
   promotion = record {
     back = c.places_are_blocks.ensures.back;
-    marking = c.marking_goes_on.ensures;
-    fewer = c.the_list_is_joined.ensures.fewer;
-    sweeping = c.a_closed_cycle_sweeps.ensures.stays;
-    settled = c.a_closed_cycle_sweeps.ensures.settled;
-    waits = c.a_closed_cycle_sweeps.ensures.placed;
+    marking = c.a_promotion_keeps_marking.ensures;
+    fewer = c.moved_join_the_list.ensures.fewer;
+    sweeping = c.waiting_segments_stay.ensures.stays;
+    settled = c.waiting_segments_stay.ensures.settled;
+    waits = c.waiting_segments_stay.ensures.placed;
     left = c.unswept_segments_wait.ensures.stays;
     work = c.work_goes_on.ensures.goes_on;
   };
@@ -16,6 +16,6 @@ returns c = record {
   close_ready = c.a_closing_leads.ensures.ready;
   closing = c.a_closing_leads.ensures.leads;
   ending = c.an_end_leads.ensures;
-  begin_ready = c.a_full_cycle_leads.ensures.begin_ready;
-  proceeding = c.a_full_cycle_leads.ensures.leads;
+  begin_ready = c.a_due_cycle_leads.ensures.begin_ready;
+  proceeding = c.a_due_cycle_leads.ensures.leads;
 }

@@ -3,10 +3,10 @@ use Rattle.nmgc_cycle.proofs.stop_laws.an_adding_leads.Goals as goal
 
 pub returns : goal.returns
 returns c = adding_leads (record {
-  marking = c.the_marker_leads_a_cycle.ensures.add;
+  marking = c.a_cycle_marks_after_each_call.ensures.add;
   soon = c.a_closing_is_in_bounds.ensures.soon;
   paced = c.a_closing_is_in_bounds.ensures.paced;
   pace = c.the_pace_is_kept.ensures.stop;
-  waits = c.a_closed_cycle_sweeps.ensures.marked;
+  waits = c.waiting_segments_stay.ensures.marked;
   left = c.unswept_segments_wait.ensures.stays;
 })

@@ -12,15 +12,15 @@ numbers_more xs i lt = ap numbers (take_more xs i nowhere lt) ∙ map-append (λ
 pub loop-at-init : goal.loop-at-init
 loop-at-init g c = record { words = refl; list = refl; deaths = refl }
 
-pub leave_at-requires-clause-inside : goal.leave_at-requires-clause-inside
-leave_at-requires-clause-inside g c =
+pub remove_if_dead-requires-clause-inside : goal.remove_if_dead-requires-clause-inside
+remove_if_dead-requires-clause-inside g c =
     let x : Address = get_or c.args.finalised.now c.loop-at.at-index nowhere in
     let inside = c.requires.inside x (Contains-get_or c.args.finalised.now c.loop-at.at-index nowhere c.loop-at-test.true) in
     let same = ap length c.loop-at.invariant.words in
     omega (arith, inside, same)
 
-pub leave_at-requires-clause-named : goal.leave_at-requires-clause-named
-leave_at-requires-clause-named g c weak there same =
+pub remove_if_dead-requires-clause-named : goal.remove_if_dead-requires-clause-named
+remove_if_dead-requires-clause-named g c weak there same =
     let x : Address = get_or c.args.finalised.now c.loop-at.at-index nowhere in
     let list : List OldWeak = c.args.weaks.now.list in
     let inv = c.loop-at.invariant in
@@ -38,13 +38,13 @@ loop-at-preserved g c =
     let i : ℕ = c.loop-at.at-index in
     let x : Address = get_or places i nowhere in
     let inv = c.loop-at.invariant in
-    let one : c.leave_at.new.self.list ≡ left_at held x.0 (left_of held (numbers (take i places)) list) =
-    c.leave_at.ensures.list ∙ ap (λ (y : List ℕ × List OldWeak). left_at y.0 x.0 y.1) (λ k. (inv.words k, inv.list k)) in
+    let one : c.remove_if_dead.new.self.list ≡ left_at held x.0 (left_of held (numbers (take i places)) list) =
+    c.remove_if_dead.ensures.list ∙ ap (λ (y : List ℕ × List OldWeak). left_at y.0 x.0 y.1) (λ k. (inv.words k, inv.list k)) in
     record {
-      words = c.leave_at.ensures.words ∙ inv.words;
+      words = c.remove_if_dead.ensures.words ∙ inv.words;
       list = one ∙ sym (left_more held (numbers (take i places)) x.0 list) ∙
           ap (λ (l : List ℕ). left_of held l list) (sym (numbers_more places i c.loop-at-test.true));
-      deaths = c.leave_at.ensures.deaths ∙ inv.deaths;
+      deaths = c.remove_if_dead.ensures.deaths ∙ inv.deaths;
     }
 
 pub returns-clause-list : goal.returns-clause-list

@@ -35,8 +35,8 @@ value_there words b a e = ap (λ (l : List ℕ). slice_index (written l b a) 43)
 first_leaves : (words : List ℕ) (b a : ℕ) → words ≡ replicate 48 0 → leaves_at (written words b a) 40 first ≡ true
 first_leaves words b a e = ap (λ (l : List ℕ). leaves_at (written l b a) 40 first) e
 
-pub leave_at-requires-clause-named : goal.leave_at-requires-clause-named
-leave_at-requires-clause-named g c = λ weak k here.
+pub remove_if_dead-requires-clause-named : goal.remove_if_dead-requires-clause-named
+remove_if_dead-requires-clause-named g c = λ weak k here.
     let empty : c.reserve.new.self.list ≡ [] = c.reserve.ensures.list ∙ c.new-weaks.ensures.list in
     let b : ℕ = c.encode_name.result in
     let a : ℕ = c.encode_name-2.result in
@@ -55,7 +55,7 @@ add-requires-clause-new g c = λ other k same.
     let zeros : c.in_ok-words.words.items ≡ replicate 48 0 = c.in_ok-words.ensures.items_if_clones_equal (λ y e. e) in
     let words : List ℕ = written c.in_ok-words.words.items b a in
     let kept = filter_contains (λ (w : OldWeak). not (leaves_at words 40 w)) c.add_all.new.self.list other
-    (subst (λ (l : List OldWeak). Contains l other) c.leave_at.ensures.list k) in
+    (subst (λ (l : List OldWeak). Contains l other) c.remove_if_dead.ensures.list k) in
     elim (one_of_two c.reserve.new.self.list c.add_all.new.self.list c.as_slice.result.now other empty c.as_slice.ensures (c.add_all.ensures.list other).0 kept.0) [
       | inl e ↦
           let left : leaves_at words 40 other ≡ true = ap (λ (w : OldWeak). leaves_at words 40 w) e ∙ first_leaves c.in_ok-words.words.items b a zeros in

@@ -19,12 +19,12 @@ loop-at-init g c = record {
   placed = (
     [],
     sym (append-nil c.args.moves.now.items),
-    range_none c.args.base (g.W.HeapWords.words c.args.words.now) c.args.segments.now c.args.table.now c.args.from,
+    range_none c.args.base (g.W.HeapWords.words c.args.words.now) c.args.segments.now c.args.table.now c.args.nursery.base,
   );
   spare = omega arith;
   room = refl;
   reaches = reaches_none c.args.segments.now.layout c.args.base (g.W.HeapWords.words c.args.words.now) c.args.table.now c.args.segments.now
-      (c.args.maker * c.args.segments.now.layout.nursery) c.args.from c.args.to c.requires.ordered;
+      (c.args.maker * c.args.segments.now.layout.nursery) c.args.nursery.base c.args.nursery.top c.requires.ordered;
   same = refl;
 }
 
@@ -53,7 +53,7 @@ place_object-moved-requires-clause-size g c = rw c.object_words-size.ensures.sam
 pub place_object-moved-requires-clause-room : goal.place_object-moved-requires-clause-room
 place_object-moved-requires-clause-room g c =
     reaches_room c.args.segments.now.layout c.args.base (g.W.HeapWords.words c.args.words.now) c.args.table.now c.loop-at.segments c.args.maker
-    c.args.from c.loop-at.at c.args.to c.loop-at.invariant.sound c.loop-at.invariant.layout c.requires.maker c.requires.ordered
+    c.args.nursery.base c.loop-at.at c.args.nursery.top c.loop-at.invariant.sound c.loop-at.invariant.layout c.requires.maker c.requires.ordered
     c.requires.nursery (c.loop-at.invariant.reaches (left_of c.requires.reserve (let low = c.loop-at.invariant.low in let test = c.loop-at-test.true in omega (arith, low, test))))
 
 pub loop-at-preserved-then-table-index-ne0 : goal.loop-at-preserved-then-table-index-ne0
@@ -79,13 +79,13 @@ loop-at-preserved-then-table-index-ne0 g c =
     let least = c.object_words-size.ensures.least in
     let later : ℕ = c.loop-at.at + c.object_words-size.result in
     let within = c.requires.objects.within c.loop-at.at header low test mark is in
-    let end : later ≤ c.args.to = omega (arith, within, words_is) in
+    let end : later ≤ c.args.nursery.top = omega (arith, within, words_is) in
     let none : (k : ℕ) → c.loop-at.at + 1 ≤ k → k < later → IsMarked base c.args.table.now k → ⊥ = λ k l h u.
     let apart = c.requires.objects.apart c.loop-at.at k header low (omega (arith, l)) (omega (arith, h, end)) mark u is in
     omega (arith, apart, h, words_is) in
     let table : List ℕ = set c.loop-at.table (c.loop-at.at - base) moved.to.0 in
     let one = range_more base (g.W.HeapWords.words c.args.words.now) c.args.segments.now c.loop-at.segments
-    c.place_object-moved.new.segments c.args.table.now c.loop-at.table i.placed.0 c.args.from c.loop-at.at c.args.maker moved
+    c.place_object-moved.new.segments c.args.table.now c.loop-at.table i.placed.0 c.args.nursery.base c.loop-at.at c.args.maker moved
     above low (omega (arith, size, low, test, above, inside)) i.sound p.sound c.if-table-index-ne0.true p.from places i.placed.2 in
     let free : (k : ℕ) → c.loop-at.at + 1 ≤ k → k < later → slice_index table (k - base) ≡ 0 = λ k l h.
     zero_unless (slice_index table (k - base)) (λ u. none k l h (λ e. u (one.outside k (omega (arith, l, low, above)) (inr l) ∙ e))) in
@@ -98,16 +98,16 @@ loop-at-preserved-then-table-index-ne0 g c =
         i.placed.0 ++ moved ∷ [],
         c.add.ensures.items ∙ ap (λ (xs : List Move). xs ++ moved ∷ []) i.placed.1 ∙ append_assoc c.args.moves.now.items i.placed.0 (moved ∷ []),
         range_later base (g.W.HeapWords.words c.args.words.now) c.args.segments.now c.place_object-moved.new.segments c.args.table.now
-            table (i.placed.0 ++ moved ∷ []) c.args.from (c.loop-at.at + 1) later above (omega (arith, least)) free one,
+            table (i.placed.0 ++ moved ∷ []) c.args.nursery.base (c.loop-at.at + 1) later above (omega (arith, least)) free one,
       );
       spare = let e = c.add.ensures.spare in let f = i.spare in omega (arith, e, f, least);
       room = let e = c.add.ensures.spare in let f = i.room in let g = ap length c.add.ensures.items in
           let h = length-append c.loop-at.moves.items (moved ∷ []) in omega (arith, e, f, g, h);
       reaches = λ k. reaches_later c.args.segments.now.layout base (g.W.HeapWords.words c.args.words.now) c.args.table.now
-          c.place_object-moved.new.segments (c.args.maker * c.args.segments.now.layout.nursery) c.args.from (c.loop-at.at + 1) later c.args.to
+          c.place_object-moved.new.segments (c.args.maker * c.args.segments.now.layout.nursery) c.args.nursery.base (c.loop-at.at + 1) later c.args.nursery.top
           (omega (arith, least)) (reaches_more c.args.segments.now.layout base (g.W.HeapWords.words c.args.words.now) c.args.table.now
-          c.loop-at.segments c.place_object-moved.new.segments (c.args.maker * c.args.segments.now.layout.nursery) c.args.from c.loop-at.at
-          c.args.to c.args.maker moved i.sound i.layout c.requires.maker low test c.requires.objects mark p.from places (i.reaches k));
+          c.loop-at.segments c.place_object-moved.new.segments (c.args.maker * c.args.segments.now.layout.nursery) c.args.nursery.base c.loop-at.at
+          c.args.nursery.top c.args.maker moved i.sound i.layout c.requires.maker low test c.requires.objects mark p.from places (i.reaches k));
       same = p.same ∙ unchanged;
     }
 
@@ -127,27 +127,27 @@ loop-at-preserved g c =
         i.placed.0,
         i.placed.1,
         range_skip c.args.base (g.W.HeapWords.words c.args.words.now) c.args.segments.now c.loop-at.segments c.args.table.now c.loop-at.table
-            i.placed.0 c.args.from c.loop-at.at c.requires.above low c.if-table-index-ne0.false i.placed.2,
+            i.placed.0 c.args.nursery.base c.loop-at.at c.requires.above low c.if-table-index-ne0.false i.placed.2,
       );
       spare = omega (arith, spare);
       room = i.room;
       reaches = λ k. reaches_skip c.args.segments.now.layout c.args.base (g.W.HeapWords.words c.args.words.now) c.args.table.now
-          c.loop-at.segments (c.args.maker * c.args.segments.now.layout.nursery) c.args.from c.loop-at.at c.args.to (i.reaches k);
+          c.loop-at.segments (c.args.maker * c.args.segments.now.layout.nursery) c.args.nursery.base c.loop-at.at c.args.nursery.top (i.reaches k);
       same = i.same;
     }
 
 pub returns-clause-places : goal.returns-clause-places
 returns-clause-places g c =
     let up = c.loop-at.invariant.high in
-    let end : c.loop-at.at ≡ c.args.to = omega (arith, up, c.loop-at-test.false) in
+    let end : c.loop-at.at ≡ c.args.nursery.top = omega (arith, up, c.loop-at-test.false) in
     let i = c.loop-at.invariant in (
       i.placed.0,
       i.placed.1,
       subst (λ (n : ℕ). PlacesRange c.args.base (g.W.HeapWords.words c.args.words.now) c.args.segments.now c.loop-at.segments c.args.table.now
-          c.loop-at.table i.placed.0 c.args.from n) end i.placed.2,
+          c.loop-at.table i.placed.0 c.args.nursery.base n) end i.placed.2,
     )
 
 pub returns-clause-reserve : goal.returns-clause-reserve
 returns-clause-reserve g c = λ k.
     reaches_all c.args.segments.now.layout c.args.base (g.W.HeapWords.words c.args.words.now) c.args.table.now c.loop-at.segments c.args.maker
-    c.args.from c.loop-at.at c.args.to c.loop-at.invariant.layout c.requires.nursery (c.loop-at.invariant.reaches k)
+    c.args.nursery.base c.loop-at.at c.args.nursery.top c.loop-at.invariant.layout c.requires.nursery (c.loop-at.invariant.reaches k)

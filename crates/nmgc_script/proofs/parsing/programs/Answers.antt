@@ -8,38 +8,38 @@ loop-number-init c = rw (
   c.new-program.ensures,
 ) (starts c.args.version c.args.config.now (kept_from c.args.lines.now.number (lines_of c.args.lines.now.rest.now)))
 
-pub returns-in_err-at_line : goal.returns-in_err-at_line
-returns-in_err-at_line c =
+pub returns-in_err-add_line_number : goal.returns-in_err-add_line_number
+returns-in_err-add_line_number c =
     let words : map (λ w. w.now) c.deref.result.now ≡ tokens_of c.in-Some.line.now = ap (map (λ w. w.now)) c.deref.ensures.value ∙ c.in_ok-cut_tokens_within.ensures in
     let read = line_read (entry_at c.args.version c.args.config.now c.loop-number.begun) c.in-Some.number c.in-Some.line.now _ c.read_entry.result
-    c.at_line.result words c.read_entry.ensures.gives c.at_line.ensures in
-    let p = err_from_is_err_and c.from_residual-in_err-at_line.result c.from_residual-in_err-at_line.ensures.1 in
+    c.add_line_number.result words c.read_entry.ensures.gives c.add_line_number.ensures in
+    let p = err_from_is_err_and c.from_residual-in_err-add_line_number.result c.from_residual-in_err-add_line_number.ensures.1 in
     rw (p.1, p.2) (fails c.args.version c.args.config.now c.loop-number.begun c.loop-number.threads c.loop-number.program _ (
       c.in-Some.number,
       c.in-Some.line.now,
-    ) _ _ c.in-Some.ensures.line c.loop-number.invariant _ (err_read c.at_line.result _ _ c.in_err-at_line.was read))
+    ) _ _ c.in-Some.ensures.line c.loop-number.invariant _ (err_read c.add_line_number.result _ _ c.in_err-add_line_number.was read))
 
 pub loop-number-preserved-in-Section : goal.loop-number-preserved-in-Section
 loop-number-preserved-in-Section c =
     let words : map (λ w. w.now) c.deref.result.now ≡ tokens_of c.in-Some.line.now = ap (map (λ w. w.now)) c.deref.ensures.value ∙ c.in_ok-cut_tokens_within.ensures in
     let read = line_read (entry_at c.args.version c.args.config.now c.loop-number.begun) c.in-Some.number c.in-Some.line.now _ c.read_entry.result
-    c.at_line.result words c.read_entry.ensures.gives c.at_line.ensures in
-    let is : c.at_line.result ≡ Ok entry.Section = c.in_ok-at_line.was ∙ ap Ok c.in-Section.is in
+    c.add_line_number.result words c.read_entry.ensures.gives c.add_line_number.ensures in
+    let is : c.add_line_number.result ≡ Ok entry.Section = c.in_ok-add_line_number.was ∙ ap Ok c.in-Section.is in
     rw (
       c.in_ok-push-in-Section.ensures.ok,
       c.new-program-in-Section.ensures,
     ) (begins c.args.version c.args.config.now c.loop-number.begun c.loop-number.threads c.loop-number.program _
-    (c.in-Some.number, c.in-Some.line.now) _ _ c.in-Some.ensures.line c.loop-number.invariant (ok_read c.at_line.result _ entry.Section is read))
+    (c.in-Some.number, c.in-Some.line.now) _ _ c.in-Some.ensures.line c.loop-number.invariant (ok_read c.add_line_number.result _ entry.Section is read))
 
 pub loop-number-preserved : goal.loop-number-preserved
 loop-number-preserved c =
     let words : map (λ w. w.now) c.deref.result.now ≡ tokens_of c.in-Some.line.now = ap (map (λ w. w.now)) c.deref.ensures.value ∙ c.in_ok-cut_tokens_within.ensures in
     let read = line_read (entry_at c.args.version c.args.config.now c.loop-number.begun) c.in-Some.number c.in-Some.line.now _ c.read_entry.result
-    c.at_line.result words c.read_entry.ensures.gives c.at_line.ensures in
-    let is : c.at_line.result ≡ Ok (entry.Order c.in-Order.command) = c.in_ok-at_line.was ∙ ap Ok c.in-Order.is in
-    rw c.in_ok-push-in-Order.ensures.ok (goes_on c.args.version c.args.config.now c.loop-number.begun c.loop-number.threads c.loop-number.program _
-    (c.in-Some.number, c.in-Some.line.now) _ _ c.in-Some.ensures.line c.loop-number.invariant c.in-Order.command
-    (ok_read c.at_line.result _ (entry.Order c.in-Order.command) is read))
+    c.add_line_number.result words c.read_entry.ensures.gives c.add_line_number.ensures in
+    let is : c.add_line_number.result ≡ Ok (entry.Command c.in-Command.command) = c.in_ok-add_line_number.was ∙ ap Ok c.in-Command.is in
+    rw c.in_ok-push-in-Command.ensures.ok (goes_on c.args.version c.args.config.now c.loop-number.begun c.loop-number.threads c.loop-number.program _
+    (c.in-Some.number, c.in-Some.line.now) _ _ c.in-Some.ensures.line c.loop-number.invariant c.in-Command.command
+    (ok_read c.add_line_number.result _ (entry.Command c.in-Command.command) is read))
 
 pub returns : goal.returns
 returns c = rw c.in_ok-push.ensures.ok (is_done c.args.version c.args.config.now c.loop-number.begun c.loop-number.threads c.loop-number.program _ _
@@ -47,5 +47,5 @@ returns c = rw c.in_ok-push.ensures.ok (is_done c.args.version c.args.config.now
 
 pub overflow_add-begun : goal.overflow_add-begun
 overflow_add-begun c =
-    let is : c.at_line.result ≡ Ok entry.Section = c.in_ok-at_line.was ∙ ap Ok c.in-Section.is in
-    omega (arith, within c.loop-number.begun c.in-Some.number 255 c.read_entry.result c.at_line.result c.at_line.ensures is c.read_entry.ensures.within)
+    let is : c.add_line_number.result ≡ Ok entry.Section = c.in_ok-add_line_number.was ∙ ap Ok c.in-Section.is in
+    omega (arith, within c.loop-number.begun c.in-Some.number 255 c.read_entry.result c.add_line_number.result c.add_line_number.ensures is c.read_entry.ensures.within)

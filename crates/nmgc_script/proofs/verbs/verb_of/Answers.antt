@@ -3,6 +3,6 @@ use Rattle.nmgc_script.proofs.verbs.verb_of.Goals as goal
 
 pub returns-then-eq : goal.returns-then-eq
 returns-then-eq c =
-    let is : c.args.name.now ≡ verb_name c.likely-verb.result =
+    let is : c.args.name.now ≡ verb_name c.guess_verb-verb.result =
     (bytes_eq-Decides c.args.name.now c.name.result.now).0 (sym c.eq.ensures ∙ c.if-eq.true) ∙ c.name.ensures in
-    ap verb_at is ∙ verb_again c.likely-verb.result
+    ap verb_at is ∙ verb_again c.guess_verb-verb.result

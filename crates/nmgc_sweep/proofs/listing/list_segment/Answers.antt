@@ -11,8 +11,8 @@ loop-block-init c =
       freed_room = omega arith;
     }
 
-pub at-name-requires : goal.at-name-requires
-at-name-requires c =
+pub name_at-name-requires : goal.name_at-name-requires
+name_at-name-requires c =
     let x : Segment = nth c.args.segments.now.segments c.args.number in
     let block = c.loop-block.block in
     let within : block < block_count x = subst (λ (n : ℕ). block < n) (c.blocks-blocks.ensures ∙
@@ -62,41 +62,41 @@ loop-block-preserved c =
     elim c.if-in_use.branch [
       | then-in_use+then-not-is_marked w ↦
           let used : InUse x block = subst (λ (s : Segment). InUse s block) is (c.in_use.ensures.0 w.if-in_use.true) in
-          let named : name block ≡ Some w.at-name.result = subst (λ (p : ℕ). slice_get c.args.names.now (entry_of p) ≡
-          Some w.at-name.result) at w.at-name.ensures in
+          let named : name block ≡ Some w.name_at-name.result = subst (λ (p : ℕ). slice_get c.args.names.now (entry_of p) ≡
+          Some w.name_at-name.result) at w.name_at-name.ensures in
           let lost : IsLost x c.args.epoch block = (
             used,
             λ marked.
                 let t : w.is_marked.result ≡ true = w.is_marked.ensures.1 (subst (λ (s : Segment). IsMarked s c.args.epoch block) (sym is) marked) in
                 let f : true ≡ false = sym t ∙ w.if-not-is_marked.true in cc,
           ) in
-          let had : c.if-in_use.had.names ≡ c.loop-block.had.names ++ w.at-name.result ∷ [] = ap (λ (r : NameRoom). r.names) w.had-is ∙
+          let had : c.if-in_use.had.names ≡ c.loop-block.had.names ++ w.name_at-name.result ∷ [] = ap (λ (r : NameRoom). r.names) w.had-is ∙
           w.add.ensures.names in
           let had_spare : c.if-in_use.had.spare + 1 ≡ c.loop-block.had.spare = ap (λ (r : NameRoom). r.spare + 1) w.had-is ∙ w.add.ensures.spare in
-          let freed : c.if-in_use.freed.names ≡ c.loop-block.freed.names ++ w.at-name.result ∷ [] =
+          let freed : c.if-in_use.freed.names ≡ c.loop-block.freed.names ++ w.name_at-name.result ∷ [] =
           ap (λ (r : NameRoom). r.names) w.freed-is ∙ w.add-then-not-is_marked.ensures.names in
           let freed_spare : c.if-in_use.freed.spare + 1 ≡ c.loop-block.freed.spare = ap (λ (r : NameRoom). r.spare + 1) w.freed-is ∙
           w.add-then-not-is_marked.ensures.spare in
           record {
-            had = one_listed (InUse x) name block w.at-name.result c.args.had.now.names c.loop-block.had.names c.if-in_use.had.names used named had
+            had = one_listed (InUse x) name block w.name_at-name.result c.args.had.now.names c.loop-block.had.names c.if-in_use.had.names used named had
                 c.loop-block.invariant.had;
             had_room = omega (arith, had_spare, had_room);
-            freed = one_listed (IsLost x c.args.epoch) name block w.at-name.result c.args.freed.now.names c.loop-block.freed.names
+            freed = one_listed (IsLost x c.args.epoch) name block w.name_at-name.result c.args.freed.now.names c.loop-block.freed.names
                 c.if-in_use.freed.names lost named freed c.loop-block.invariant.freed;
             freed_room = omega (arith, freed_spare, freed_room);
           }
       | then-in_use+else-not-is_marked w ↦
           let used : InUse x block = subst (λ (s : Segment). InUse s block) is (c.in_use.ensures.0 w.if-in_use.true) in
-          let named : name block ≡ Some w.at-name.result = subst (λ (p : ℕ). slice_get c.args.names.now (entry_of p) ≡
-          Some w.at-name.result) at w.at-name.ensures in
+          let named : name block ≡ Some w.name_at-name.result = subst (λ (p : ℕ). slice_get c.args.names.now (entry_of p) ≡
+          Some w.name_at-name.result) at w.name_at-name.ensures in
           let kept : IsMarked x c.args.epoch block = subst (λ (s : Segment).
           IsMarked s c.args.epoch block) is (w.is_marked.ensures.0 w.if-not-is_marked.false) in
-          let had : c.if-in_use.had.names ≡ c.loop-block.had.names ++ w.at-name.result ∷ [] = ap (λ (r : NameRoom). r.names) w.had-is ∙
+          let had : c.if-in_use.had.names ≡ c.loop-block.had.names ++ w.name_at-name.result ∷ [] = ap (λ (r : NameRoom). r.names) w.had-is ∙
           w.add.ensures.names in
           let had_spare : c.if-in_use.had.spare + 1 ≡ c.loop-block.had.spare = ap (λ (r : NameRoom). r.spare + 1) w.had-is ∙ w.add.ensures.spare in
           let freed_spare : c.if-in_use.freed.spare ≡ c.loop-block.freed.spare = ap (λ (r : NameRoom). r.spare) w.freed-is in
           record {
-            had = one_listed (InUse x) name block w.at-name.result c.args.had.now.names c.loop-block.had.names c.if-in_use.had.names used named had
+            had = one_listed (InUse x) name block w.name_at-name.result c.args.had.now.names c.loop-block.had.names c.if-in_use.had.names used named had
                 c.loop-block.invariant.had;
             had_room = omega (arith, had_spare, had_room);
             freed = one_passed_over (IsLost x c.args.epoch) name block c.args.freed.now.names c.if-in_use.freed.names (λ lost. lost.1 kept)

@@ -4,7 +4,7 @@ use Rattle.nmgc_trace_checker.proofs.report.judge_lines.Goals as goal
 
 pub returns-in-Some : goal.returns-in-Some
 returns-in-Some c =
-    let H : Option Refusal → Type 0 = λ o. IsHappening (c.loop-index.index + 1) c.loop-index.begun c.index-lines-index.result o c.happen.new.begun in
+    let H : Option Refusal → Type 0 = λ o. IsHappening (c.loop-index.index + 1) c.loop-index.begun c.index-lines-index.result o c.do_line.new.begun in
     record {
       report = ends_at_line c.args.lines.now c.loop-index.index c.index-lines-index.result c.loop-index.begun c.in-Some.refusal
           c.loop-index-test.true c.index-lines-index.is c.loop-index.invariant (subst H c.in-Some.is c.in_ok-refused.ensures);
@@ -13,8 +13,8 @@ returns-in-Some c =
 
 pub loop-index-preserved : goal.loop-index-preserved
 loop-index-preserved c =
-    let H : Option Refusal → Type 0 = λ o. IsHappening (c.loop-index.index + 1) c.loop-index.begun c.index-lines-index.result o c.happen.new.begun in
-    comes_next c.args.lines.now c.loop-index.index c.index-lines-index.result c.loop-index.begun c.happen.new.begun c.loop-index-test.true
+    let H : Option Refusal → Type 0 = λ o. IsHappening (c.loop-index.index + 1) c.loop-index.begun c.index-lines-index.result o c.do_line.new.begun in
+    comes_next c.args.lines.now c.loop-index.index c.index-lines-index.result c.loop-index.begun c.do_line.new.begun c.loop-index-test.true
     c.index-lines-index.is c.loop-index.invariant (subst H c.in_default.is c.in_ok-refused.ensures)
 
 pub returns : goal.returns

@@ -2,10 +2,7 @@ use Rattle.nmgc_weak.proofs.{Vocabulary.◌≡◌, Vocabulary.◌<◌, Vocabular
 use Rattle.nmgc_weak.proofs.weaks.reserve_rows.Goals as goal
 
 pub loop-row-init : goal.loop-row-init
-loop-row-init c = record {
-  done = λ k old new less a b. absurd (omega (arith, less));
-  rest = λ k le. refl;
-}
+loop-row-init c = record { done = λ k old new less a b. absurd (omega (arith, less)); rest = λ k le. refl }
 
 pub loop-row-preserved : goal.loop-row-preserved
 loop-row-preserved c =

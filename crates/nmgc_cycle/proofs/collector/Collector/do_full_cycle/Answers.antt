@@ -3,29 +3,29 @@ use Rattle.nmgc_cycle.proofs.collector.Collector.do_full_cycle.Goals as goal
 
 pub start-requires-clause-inside : goal.start-requires-clause-inside
 start-requires-clause-inside g c =
-    (is_filed_at c.a_full_cycle_leads.ensures.finish c.a_full_cycle_leads.ensures.filing c.a_full_cycle_leads.ensures.begin_ready c.args.stop
+    (is_filed_at c.a_due_cycle_leads.ensures.finish c.a_due_cycle_leads.ensures.filing c.a_due_cycle_leads.ensures.begin_ready c.args.stop
     c.args.self.now c.finish_cycle.new.self c.retire_all.new.self c.requires.stands c.in_ok-finish_cycle.ensures c.retire_all.ensures.value
     c.retire_all.ensures.sound).begins.inside
 
 pub start-requires-clause-can : goal.start-requires-clause-can
 start-requires-clause-can g c =
-    let at = is_filed_at c.a_full_cycle_leads.ensures.finish c.a_full_cycle_leads.ensures.filing c.a_full_cycle_leads.ensures.begin_ready
+    let at = is_filed_at c.a_due_cycle_leads.ensures.finish c.a_due_cycle_leads.ensures.filing c.a_due_cycle_leads.ensures.begin_ready
     c.args.stop c.args.self.now c.finish_cycle.new.self c.retire_all.new.self c.requires.stands c.in_ok-finish_cycle.ensures
     c.retire_all.ensures.value c.retire_all.ensures.sound in
     at.begins.can at.none
 
 pub finish_cycle-requires-2-clause-stands : goal.finish_cycle-requires-2-clause-stands
 finish_cycle-requires-2-clause-stands g c κs within =
-    let at = is_filed_at c.a_full_cycle_leads.ensures.finish c.a_full_cycle_leads.ensures.filing c.a_full_cycle_leads.ensures.begin_ready
+    let at = is_filed_at c.a_due_cycle_leads.ensures.finish c.a_due_cycle_leads.ensures.filing c.a_due_cycle_leads.ensures.begin_ready
     c.args.stop c.args.self.now c.finish_cycle.new.self c.retire_all.new.self c.requires.stands c.in_ok-finish_cycle.ensures
     c.retire_all.ensures.value c.retire_all.ensures.sound in
-    started_at c.a_full_cycle_leads.ensures.starting c.args.stop
+    started_at c.a_due_cycle_leads.ensures.starting c.args.stop
     (record c.finish_cycle.new.self { heap = record c.finish_cycle.new.self.heap { segments = c.retire_all.new.self } }) c.start.new.self at.stands
     at.none c.in_ok-start.ensures
 
 pub returns : goal.returns
 returns g c =
-    let at = is_filed_at c.a_full_cycle_leads.ensures.finish c.a_full_cycle_leads.ensures.filing c.a_full_cycle_leads.ensures.begin_ready
+    let at = is_filed_at c.a_due_cycle_leads.ensures.finish c.a_due_cycle_leads.ensures.filing c.a_due_cycle_leads.ensures.begin_ready
     c.args.stop c.args.self.now c.finish_cycle.new.self c.retire_all.new.self c.requires.stands c.in_ok-finish_cycle.ensures
     c.retire_all.ensures.value c.retire_all.ensures.sound in
     record {

@@ -144,8 +144,8 @@ finish-words-requires-clause-seats g c =
     let after : Collector = c.run_workers.new.self in
     let has = scanned o round script.config.quota c.start-round.result.collector seat own.heap.segments after.heap.segments own.heap.names own.cycle.progress
     after.cycle.progress s.collector.0 s.collector.1 c.run_workers.ensures.collector in
-    let seats : c.in_place.result ≡ map seat_of new = c.in_place.ensures ∙ c.unseat_all-emptied.ensures.seats ∙ ap (λ (l : List Worker). map seat_of l) left in
-    (seats_at script own o may round new ran seat has c.in_place.result seats, has.at)
+    let seats : c.from_vec_in.result ≡ map seat_of new = c.from_vec_in.ensures ∙ c.unseat_all-emptied.ensures.seats ∙ ap (λ (l : List Worker). map seat_of l) left in
+    (seats_at script own o may round new ran seat has c.from_vec_in.result seats, has.at)
 
 pub finish-words-requires-clause-all : goal.finish-words-requires-clause-all
 finish-words-requires-clause-all g c =
@@ -166,8 +166,8 @@ finish-words-requires-clause-all g c =
     let after : Collector = c.run_workers.new.self in
     let has = scanned o round script.config.quota c.start-round.result.collector seat own.heap.segments after.heap.segments own.heap.names own.cycle.progress
     after.cycle.progress s.collector.0 s.collector.1 c.run_workers.ensures.collector in
-    let seats : c.in_place.result ≡ map seat_of new = c.in_place.ensures ∙ c.unseat_all-emptied.ensures.seats ∙ ap (λ (l : List Worker). map seat_of l) left in
-    has_all script own o may round new ran seat has c.slices_lead.ensures.parts c.in_place.result seats
+    let seats : c.from_vec_in.result ≡ map seat_of new = c.from_vec_in.ensures ∙ c.unseat_all-emptied.ensures.seats ∙ ap (λ (l : List Worker). map seat_of l) left in
+    has_all script own o may round new ran seat has c.slices_lead.ensures.parts c.from_vec_in.result seats
 
 pub advance-requires-clause-count : goal.advance-requires-clause-count
 advance-requires-clause-count g c =
@@ -230,7 +230,7 @@ returns g c =
     let after : Collector = c.run_workers.new.self in
     let has = scanned o round script.config.quota c.start-round.result.collector seat own.heap.segments after.heap.segments own.heap.names own.cycle.progress
     after.cycle.progress s.collector.0 s.collector.1 c.run_workers.ensures.collector in
-    let seats : c.in_place.result ≡ map seat_of new = c.in_place.ensures ∙ c.unseat_all-emptied.ensures.seats ∙ ap (λ (l : List Worker). map seat_of l) left in
+    let seats : c.from_vec_in.result ≡ map seat_of new = c.from_vec_in.ensures ∙ c.unseat_all-emptied.ensures.seats ∙ ap (λ (l : List Worker). map seat_of l) left in
     let done : c.as_slice.result.now ≡ new = c.as_slice.ensures.value ∙ left in
     let positions : c.as_mut_slice-2.result.now ≡ own.positions.items = c.as_mut_slice-2.ensures.value ∙
     ap (λ (y : Collector). y.positions.items) c.run_workers.ensures.rest in
@@ -244,7 +244,7 @@ returns g c =
     HaveMoved c.as_mut_slice-2.result.now (map done_by l) moved) done c.advance.ensures.each) in
     let did = did_slices script own o may round new ran seat has c.slices_lead.ensures.parts c.slices_lead.ensures.owed
     c.start-round.result.collector s.collector.1 s.round.0 after.heap.segments c.run_workers.ensures.sound after.cycle.progress c.run_workers.ensures.collector
-    c.in_place.result seats c.finish-words.result.words c.finish-words.ensures.leaves after.cycle.collect after.cycle.full c.run_workers.ensures.collect
+    c.from_vec_in.result seats c.finish-words.result.words c.finish-words.ensures.leaves after.cycle.collect after.cycle.full c.run_workers.ensures.collect
     c.run_workers.ensures.full after.inbox c.run_workers.ensures.polled c.unseat_all-emptied.new.mutators (with_items after.positions moved)
     (c.unseat_all-emptied.ensures.mutators ∙ ap (λ (l : List Worker). map mutator_of l) left) (ap (λ (l : List ℕ). length l) back ∙
     many) (subst (λ (l : List ℕ). HaveMoved own.positions.items (map done_by new) l) (sym back) move) in

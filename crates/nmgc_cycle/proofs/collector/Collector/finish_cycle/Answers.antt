@@ -18,5 +18,5 @@ returns g c = record {
   closes = c.close_now.ensures;
   swept = c.sweep_rest.new.self;
   sweeps = c.sweep_rest.ensures;
-  ends = c.in_ok-end.ensures;
+  ends = c.in_ok-try_end.ensures;
 }

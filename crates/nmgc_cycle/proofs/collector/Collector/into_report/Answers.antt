@@ -19,7 +19,7 @@ returns-clause-parts c =
     same_parts c.args.self c.args.end _ _ _ _
     (in_order_there c.args.self.rows.cycles c.items_mut.result.now c.put_rows_in_order.new.rows c.items_mut.ensures.value c.put_rows_in_order.ensures)
     (c.of_table.ensures ∙ c.close-words.ensures.words ∙ words_had c.args.self.heap.words c.unwrap.result c.unwrap.ensures)
-    (c.in_place.ensures ∙ c.all_ends-ends.ensures)
+    (c.from_vec_in.ensures ∙ c.all_ends-ends.ensures)
     c.into_names.ensures
 
 pub returns-clause-reported : goal.returns-clause-reported
@@ -27,5 +27,5 @@ returns-clause-reported c = λ script ended.
     subst (IsLawful script) (sym (same_parts c.args.self c.args.end _ _ _ _
     (in_order_there c.args.self.rows.cycles c.items_mut.result.now c.put_rows_in_order.new.rows c.items_mut.ensures.value c.put_rows_in_order.ensures)
     (c.of_table.ensures ∙ c.close-words.ensures.words ∙ words_had c.args.self.heap.words c.unwrap.result c.unwrap.ensures)
-    (c.in_place.ensures ∙ c.all_ends-ends.ensures)
+    (c.from_vec_in.ensures ∙ c.all_ends-ends.ensures)
     c.into_names.ensures)) (reported script c.args.self c.args.end ended)

@@ -43,14 +43,14 @@ has_commands_left-left-requires g c =
     (steps.stands_ended c.a_stop_leads.ensures c.args.script.now c.args.self.now c.promote.new.self c.requires.limits c.requires.can
     c.in_ok-promoted.ensures.promoted c.in_ok-promoted.ensures.listed c.add_remembered.new.self c.add_remembered.ensures
     (length c.items.result.now) (ap (λ (rows : List StopRow).
-    length rows) c.items.ensures) c.try_close.new.self c.try_close.ensures c.end.new.self c.in_ok-end.ensures).kept.positions_are
+    length rows) c.items.ensures) c.try_close.new.self c.try_close.ensures c.try_end.new.self c.in_ok-try_end.ensures).kept.positions_are
 
 pub do_due_cycle-requires-clause-stands : goal.do_due_cycle-requires-clause-stands
 do_due_cycle-requires-clause-stands g c κs within =
     steps.at_this_stop c.a_stop_leads.ensures c.args.script.now c.args.self.now c.promote.new.self c.requires.limits c.requires.can
     c.in_ok-promoted.ensures.promoted c.in_ok-promoted.ensures.listed c.add_remembered.new.self c.add_remembered.ensures
     (length c.items.result.now) (ap (λ (rows : List StopRow).
-    length rows) c.items.ensures) c.try_close.new.self c.try_close.ensures c.end.new.self c.in_ok-end.ensures
+    length rows) c.items.ensures) c.try_close.new.self c.try_close.ensures c.try_end.new.self c.in_ok-try_end.ensures
 
 pub do_due_cycle-requires-clause-number : goal.do_due_cycle-requires-clause-number
 do_due_cycle-requires-clause-number g c κs within =
@@ -58,7 +58,7 @@ do_due_cycle-requires-clause-number g c κs within =
     let same = steps.begun_is c.a_stop_leads.ensures c.args.script.now c.args.self.now c.promote.new.self c.requires.limits c.requires.can
     c.in_ok-promoted.ensures.promoted c.in_ok-promoted.ensures.listed c.add_remembered.new.self c.add_remembered.ensures
     (length c.items.result.now) (ap (λ (rows : List StopRow).
-    length rows) c.items.ensures) c.try_close.new.self c.try_close.ensures c.end.new.self c.in_ok-end.ensures in
+    length rows) c.items.ensures) c.try_close.new.self c.try_close.ensures c.try_end.new.self c.in_ok-try_end.ensures in
     omega (arith, few, same)
 
 -- the steps of the stop, the values read at its end, and the reason for its answer
@@ -74,8 +74,8 @@ stepped g c = record {
   adds = c.add_remembered.ensures;
   closed = c.try_close.new.self;
   closes = c.try_close.ensures;
-  ended = c.end.new.self;
-  ends = c.in_ok-end.ensures;
+  ended = c.try_end.new.self;
+  ends = c.in_ok-try_end.ensures;
   some = c.has_commands_left-left.result;
   some_is = c.has_commands_left-left.ensures;
   proceeds = c.in_ok-do_due_cycle.ensures;
@@ -84,7 +84,7 @@ stepped g c = record {
 read : (g : Over) (c : goal.After-self-1 g) → IsRead c.args.script.now c.do_due_cycle.new.self
 read g c = record {
   left = c.has_commands_left-left.result;
-  left_is = some_left_then c.args.script.now c.end.new.self c.do_due_cycle.new.self c.args.script.now.config.trigger (length c.items.result.now)
+  left_is = some_left_then c.args.script.now c.try_end.new.self c.do_due_cycle.new.self c.args.script.now.config.trigger (length c.items.result.now)
       c.has_commands_left-left.result c.in_ok-do_due_cycle.ensures c.has_commands_left-left.ensures;
   phase = c.phase.result;
   phase_is = c.phase.ensures;

@@ -8,5 +8,5 @@ returns c =
     rw (
       c.in_ok-mark_starts.ensures,
       c.new.ensures,
-    ) (live_begun c.args.self.now h c.args.extra.now c.requires c.in_ok-no_names.field-0 c.in_ok-no_names.ensures.places
-    c.in_ok-no_names.ensures.none)
+    ) (live_begun c.args.self.now h c.args.extra.now c.requires c.in_ok-empty_set.field-0 c.in_ok-empty_set.ensures.places
+    c.in_ok-empty_set.ensures.none)

@@ -3,7 +3,7 @@ use Rattle.nmgc_heap_tests.proofs.of_minor.stop.young_mutator.Goals as goal
 
 pub returns : goal.returns
 returns c = record {
-  registers = c.of.ensures ∙ ap (λ (items : List ℕ). set (set items 0 4160) 1 13) (c.in_ok-registers.ensures.items_if_clones_equal (λ y e. e));
+  registers = c.from_vec.ensures ∙ ap (λ (items : List ℕ). set (set items 0 4160) 1 13) (c.in_ok-registers.ensures.items_if_clones_equal (λ y e. e));
   queue = c.new-3.ensures.words;
   nursery = refl;
   recorded = c.clear.ensures.items;

@@ -7,7 +7,7 @@ loop-at-init g c = record {
   count = 0;
   marked = marked_none c.args.segments.now c.args.self.now c.requires.room;
   turns = refl;
-  each = λ o r. (whole o, alone_opens c.words_open.ensures o (g.W.HeapWords.words c.args.words.now) r.opens, r.tied);
+  each = λ o r. (whole o, alone_opens c.openings_keep_the_rule.ensures o (g.W.HeapWords.words c.args.words.now) r.opens, r.tied);
 }
 
 pub scan-requires-clause-room : goal.scan-requires-clause-room

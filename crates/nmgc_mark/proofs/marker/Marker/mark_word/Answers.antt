@@ -14,12 +14,12 @@ returns-then-at-eq0-clause-tied c = λ o m h.
     tied_unset o m c.args.segments.now c.args.self.now c.args.word (omega (arith, c.in-Some.ensures.some, c.if-at-eq0.true)) h
 
 pub returns-clause-marked : goal.returns-clause-marked
-returns-clause-marked c = place_marked c.args.segments.now c.mark.new.segments c.args.self.now c.mark.new.self c.in-Some.at c.requires.room c.mark.ensures
+returns-clause-marked c = place_marked c.args.segments.now c.mark_at.new.segments c.args.self.now c.mark_at.new.self c.in-Some.at c.requires.room c.mark_at.ensures
 
 pub returns-clause-tied : goal.returns-clause-tied
 returns-clause-tied c = λ o m h.
-    tied_word o m c.args.segments.now c.mark.new.segments c.args.self.now c.mark.new.self c.args.word c.in-Some.at c.in-Some.ensures.some
-    c.if-at-eq0.false h c.mark.ensures
+    tied_word o m c.args.segments.now c.mark_at.new.segments c.args.self.now c.mark_at.new.self c.args.word c.in-Some.at c.in-Some.ensures.some
+    c.if-at-eq0.false h c.mark_at.ensures
 
 pub returns-clause-turns : goal.returns-clause-turns
-returns-clause-turns c = place_turns c.args.segments.now c.mark.new.segments c.args.self.now c.mark.new.self c.in-Some.at c.mark.ensures
+returns-clause-turns c = place_turns c.args.segments.now c.mark_at.new.segments c.args.self.now c.mark_at.new.self c.in-Some.at c.mark_at.ensures

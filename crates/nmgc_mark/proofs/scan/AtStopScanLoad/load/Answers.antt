@@ -11,5 +11,5 @@ load-requires g c =
 
 pub returns : goal.returns
 returns g c = λ first v shows can.
-    scan_alone c.scan.ensures (g.W.HeapWords.words first) (g.W.HeapWords.words c.args.source.now) (g.W.HeapWords.words c.load.new.self) v
+    scan_alone c.scans_keep_the_rule.ensures (g.W.HeapWords.words first) (g.W.HeapWords.words c.args.source.now) (g.W.HeapWords.words c.load.new.self) v
     c.args.at.0 c.args.offset c.load.result shows can c.load.ensures.same c.load.ensures.word

@@ -12,7 +12,4 @@ returns c =
     let v : Seen = all_together (seen c.args.collector) (map seen c.args.mutators) in
     let is : seen c.gather-last.result ≡ v = c.gather-last.ensures.1 in
     let same : v.opening ≡ o = same_opening (seen c.args.collector) (map seen c.args.mutators) ∙ c.requires.seats.1.2 in
-    record {
-      leaves = leaves o c.end.result v (rw is at c.end.ensures.0) (rw same at c.requires.all.1);
-      count = c.end.ensures.1;
-    }
+    record { leaves = leaves o c.end.result v (rw is at c.end.ensures.0) (rw same at c.requires.all.1); count = c.end.ensures.1 }

@@ -4,7 +4,7 @@ use Rattle.nmgc_script.proofs.version.Version.dest_values.Goals as goal
 pub returns-in_err-dest : goal.returns-in_err-dest
 returns-in_err-dest c =
     let p = err_from_is_err_and c.from_residual.result c.from_residual.ensures.1 in
-    rw (p.1, p.2) (front_fails (λ w. w.now) _ _ _ _ c.args.words.now _ _ _ (omega (arith, c.in-len4.len_at_least)) (omega (
+    rw (p.1, p.2) (front_fails (λ w. w.now) _ _ _ _ c.args.tokens.now _ _ _ (omega (arith, c.in-len4.len_at_least)) (omega (
       arith,
       c.in-len4.len_below,
     )) c.in_err-dest.ensures)

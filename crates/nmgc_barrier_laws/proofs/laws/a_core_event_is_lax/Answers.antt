@@ -1,5 +1,0 @@
-use Rattle.nmgc_barrier_laws.specs.laws.CoreIsLax.{core_is_lax}
-use Rattle.nmgc_barrier_laws.proofs.laws.a_core_event_is_lax.Goals as goal
-
-pub returns : goal.returns
-returns c = core_is_lax

@@ -1,5 +1,0 @@
-use Rattle.nmgc_mark.proofs.Growth.{more_places}
-use Rattle.nmgc_mark.proofs.laws.places_may_grow.Goals as goal
-
-pub returns : goal.returns
-returns c = λ o places m s marker. more_places o places m s marker

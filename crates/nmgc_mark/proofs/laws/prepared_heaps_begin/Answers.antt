@@ -1,5 +1,0 @@
-use Rattle.nmgc_mark.proofs.Begins.{begins_then}
-use Rattle.nmgc_mark.proofs.laws.prepared_heaps_begin.Goals as goal
-
-pub returns : goal.returns
-returns c = λ o s epoch words registers queues h. begins_then o s epoch words registers queues h

@@ -1,5 +1,0 @@
-use Rattle.nmgc_world_laws.specs.laws.{Keeps.step_leaves_others, Deaths.closing_leaves_hands}
-use Rattle.nmgc_world_laws.proofs.laws.hands_stay.Goals as goal
-
-pub returns : goal.returns
-returns c = record { step = step_leaves_others; closing = closing_leaves_hands }

@@ -1,5 +1,0 @@
-use Rattle.nmgc_world_laws.specs.{Reachable.Passes, laws.HeldSteps.step_holds_only, laws.Reached.closed_holds}
-use Rattle.nmgc_world_laws.proofs.laws.nothing_else_is_held.Goals as goal
-
-pub returns : goal.returns
-returns c = record { step = λ test. step_holds_only (Passes test); closing = λ test. closed_holds (Passes test) }
