@@ -1,7 +1,7 @@
--- Segments and words of the heap that represent an allocation state, and the words that a placing writes.
-use Rattle.std.specs.Prelude.{ℕ, ◌≡◌, ◌≢◌, ◌↔◌, List, length, slice_index, Some, IsSome, ◌+◌, ◌<◌, ◌≤◌, ◌⊎◌}
+-- Segments and words of the heap that represent an allocation state.
+use Rattle.std.specs.Prelude.{ℕ, ◌≡◌, ◌≢◌, ◌↔◌, List, length, slice_index, Some, IsSome}
 use Rattle.nmgc_world_spec.specs.declared.value.Name.{Name}
-use Rattle.nmgc_object.specs.{Size.name_place, Size.block_size, Words.name_word, Places.word_total}
+use Rattle.nmgc_object.specs.{Size.name_place, Words.name_word, Places.word_total}
 use Rattle.nmgc_segment.specs.Segment.{InUse, block_count}
 use Rattle.nmgc_segment.specs.declared.state.State.TheVariants as stands
 use Rattle.nmgc_alloc.specs.{Numbered.nth, Numbered.Segments, Numbered.block_place, Numbered.HasNumber, AllocState.Cells, AllocState.no_cells, AllocState.name_in, AllocState.AllocState, AllocState.cells, AllocState.AreNames}
@@ -24,9 +24,3 @@ pub record StandsFor (s : Segments) (words : List ℕ) (allocation : AllocState)
   pub names : AreNames allocation
   pub fresh : allocation.fresh ≡ s.fresh
   pub shows : (number : ℕ) → HasNumber s number → Shows s words number (cells allocation number)
-
--- words before and after an object is written at an address: its second word is its name, and words outside its block stay
-pub record Writes (old new : List ℕ) (at class : ℕ) (name : Name) : Type 0 where
-  pub length : length new ≡ length old
-  pub second : slice_index new (name_place at) ≡ name_word name
-  pub others : (i : ℕ) → (i < at) ⊎ (at + block_size class ≤ i) → slice_index new i ≡ slice_index old i

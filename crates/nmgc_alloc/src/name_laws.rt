@@ -6,8 +6,8 @@
 ghost use Rattle.std.specs.Prelude.{ℕ, ◌≡◌, ◌+◌, ◌⊎◌, ◌↔◌, List, Contains};
 ghost use Rattle.nmgc_world_spec.specs.declared.value.Name.{Name};
 ghost use Rattle.nmgc_object.specs.declared.layout.Layout.{Layout};
-ghost use Rattle.nmgc_segment.specs.Segment.{Segment, IsMarked};
-ghost use Rattle.nmgc_alloc.specs.AllocState.{AllocState, IsAllocState, IsIn, NoneIs, PlacesName, Sweeps, SweepsSome, HoldsKept, LiesIn, LiesNowhere, LieOnce, all_empty, cycle_begun, all_retired, count_in};
+ghost use Rattle.nmgc_segment.specs.{Segment.Segment, Invariant.IsMarked};
+ghost use Rattle.nmgc_alloc.specs.{AllocState.AllocState, Invariant.IsAllocState, AllocState.IsIn, AllocState.NoneIs, AllocState.PlacesName, AllocState.Sweeps, AllocState.SweepsSome, AllocState.HoldsKept, AllocState.LiesIn, Invariant.LiesNowhere, Invariant.LieOnce, AllocState.all_empty, AllocState.cycle_begun, AllocState.all_retired, AllocState.count_in};
 
 use nmgc_segment::State;
 

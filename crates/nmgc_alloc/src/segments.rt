@@ -10,7 +10,7 @@
 //! Easy to get wrong: the number in the table may be of a segment that has been filled or retired since, so the code reads
 //! its state. A current segment that isn't in the table is never found, so each new one is written there.
 ghost use Rattle.std.specs.Prelude.{ℕ, ◌≡◌, ◌≢◌, ◌↔◌, ◌+◌, ◌<◌, ◌≤◌, ◌/◌, ◌%◌, map, min, replicate, count_by, slice_set, IsTrue, IfOk, IfSome, IfNone};
-ghost use Rattle.nmgc_object.specs.Places.{IsLayout, IsSegmentSize, segment_place};
+ghost use Rattle.nmgc_object.specs.{Layouts.IsLayout, Layouts.IsSegmentSize, Places.segment_place};
 ghost use Rattle.nmgc_segment.specs.{Marks.IsEpoch, Segment.free_segment, Segment.block_count};
 ghost use Rattle.nmgc_alloc.specs.{CycleSteps.prepared, CycleSteps.carried_over, CycleSteps.retired, Numbered.is, Numbered.nth, Search.sought_count, Search.IsKind, Search.tally_from, Halves.IsInHalf, Halves.SweepsMany};
 

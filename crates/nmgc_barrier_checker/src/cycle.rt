@@ -46,7 +46,7 @@ impl Model for Cycle {
 }
 
 impl Cycle {
-    ghost use Rattle.nmgc_world_spec.specs.Step.{CanApply};
+    ghost use Rattle.nmgc_world_spec.specs.Known.{CanApply};
     ghost use Rattle.nmgc_barrier_laws.specs.Cycle.{watching, IsPushed};
     ghost use Rattle.nmgc_barrier_checker.specs.Cycles.{IsTaken, IsCommand, IsActing, IsPush, IsSettle, IsTake, IsLeastDebt, IsUntakenIf};
 

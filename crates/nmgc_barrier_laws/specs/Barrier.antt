@@ -1,7 +1,7 @@
 -- A watched cycle with a marker beside it. The cycle sees only the runtime's commands and pushes. The marker, which isn't
 -- seen, marks names that may be held, scans, and takes waiting names in any order.
 use Rattle.std.specs.Prelude.{◌≡◌, ◌<◌, ◌↔◌, ◌⊎◌, ℕ, List, [], ◌∷◌, ◌++◌, length, slice_set, replicate, IsSome, Contains}
-use Rattle.nmgc_world_spec.specs.{declared.value.Name.Name, declared.command.Command.Command, declared.command.Reply.Reply, World.World, World.node_of, World.IsWorld, Reach.IsDead, Reach.Lists, Reach.closed}
+use Rattle.nmgc_world_spec.specs.{declared.value.Name.Name, declared.command.Command.Command, declared.command.Reply.Reply, World.World, World.node_of, Known.IsWorld, Reach.IsDead, Reach.Lists, Reach.closed}
 use Rattle.nmgc_snapshot_laws.specs.declared.event.Event.TheVariants as event
 use Rattle.nmgc_snapshot_laws.specs.{State.State, State.names_of, State.mark_name, State.opening, Machine.IsPossible, Machine.AreEmpty, Machine.after_scan, Closing.IsClosing, Facts.MayHold}
 use Rattle.nmgc_barrier_laws.specs.{declared.debt.Debt.Debt, Lax.after_owing, Lax.IsShuffled, Cycle.Cycle, Cycle.watching, Cycle.IsWatched, Cycle.IsPushed, Cycle.IsTook, Cycle.MarksName}

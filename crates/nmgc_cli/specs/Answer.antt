@@ -1,13 +1,8 @@
 -- The answers of the program, and the output of an answer: its status, its report and its text.
-use Rattle.std.specs.Prelude.{◌≡◌, ℕ, List, [], ◌∷◌, ◌++◌, codes, decimal, Option, Some, None, Result, Ok, Err}
-use Rattle.nmgc_script.specs.{declared.fault.Cause.Cause, declared.fault.ScriptFault.ScriptFault, declared.script.Script.Script, Limits.IsInLimits}
+use Rattle.std.specs.Prelude.{ℕ, List, [], ◌∷◌, ◌++◌, codes, decimal, Option, None, Result, Ok, Err}
+use Rattle.nmgc_script.specs.{declared.fault.Cause.Cause, declared.script.Script.Script, Limits.IsInLimits}
 use Rattle.nmgc_script.specs.declared.fault.Cause.TheVariants as cause
-use Rattle.nmgc_io.specs.declared.ends.ReadEnd.{ReadEnd}
-use Rattle.nmgc_io.specs.declared.ends.ReadEnd.TheVariants as read
-use Rattle.nmgc_script.specs.declared.fault.ScriptFault.TheVariants as script
-use Rattle.nmgc_journal.specs.{declared.report.Report.Report, declared.report.End.End}
-use Rattle.nmgc_image.specs.declared.fault.ImageFault.{ImageFault}
-use Rattle.nmgc_image.specs.declared.fault.ImageFault.TheVariants as image
+use Rattle.nmgc_journal.specs.{declared.report.Report.Report, declared.report.End.End, Summary.count_line}
 use Rattle.nmgc_arguments.specs.Output.{text_bytes}
 use Rattle.nmgc_cli.specs.{declared.answer.Refusal.Refusal, declared.output.Output.Output, declared.status.Status.Status}
 use Rattle.nmgc_cli.specs.declared.answer.Refusal.TheVariants as no
@@ -22,22 +17,6 @@ Reported = Result Report Refusal
 -- an answer: the output of a task that was done (a status, the report if a script was run, and a text), or the refusal
 abbrev pub Answer : Type 0
 Answer = Result Output Refusal
-
--- the refusal if a source couldn't be read to its end
-abbrev pub read_refusal : ReadEnd → Refusal
-read_refusal read.ReadFault = no.ReadFault
-read_refusal read.TooLong = no.TooLong
-read_refusal read.NoMemory = no.NoMemory
-
--- the refusal if a script couldn't be read from its bytes
-abbrev pub script_refusal : ScriptFault → Refusal
-script_refusal (script.Bad line c) = no.Bad line c
-script_refusal script.NoMemory = no.NoMemory
-
--- the refusal if an image couldn't be read from its bytes
-abbrev pub image_refusal : ImageFault → Refusal
-image_refusal (image.Bad line) = no.BadImage line
-image_refusal image.NoMemory = no.NoMemory
 
 -- the status of a refusal
 abbrev pub refusal_status : Refusal → Status
@@ -63,23 +42,13 @@ cause_text cause.Size = codes "size"
 abbrev pub bad_line : ℕ → Cause → List ℕ
 bad_line line c = codes "bad line " ++ decimal line ++ 32 ∷ cause_text c ++ 10 ∷ []
 
--- the line that reports the first bad line of an image
-abbrev pub bad_image_line : ℕ → List ℕ
-bad_image_line line = codes "bad image line " ++ decimal line ++ 10 ∷ []
-
--- the refusal reports a bad line. Only the text of such a refusal takes memory.
-abbrev pub IsBad : Refusal → Type 0
-IsBad (no.Bad line c) = Unit {0}
-IsBad (no.BadImage line) = Unit {0}
-IsBad _ = ⊥
-
 -- the text of a refusal
 abbrev pub refusal_text : Refusal → List ℕ
 refusal_text no.Usage = codes "usage: nmgc run | nmgc bench N | nmgc upgrade | nmgc image | nmgc retain NAME | nmgc marks N\n"
 refusal_text no.ReadFault = codes "read fault\n"
 refusal_text no.TooLong = codes "too long\n"
 refusal_text (no.Bad line c) = bad_line line c
-refusal_text (no.BadImage line) = bad_image_line line
+refusal_text (no.BadImage line) = count_line (codes "bad image line ") line
 refusal_text no.NoMemory = codes "no memory\n"
 
 -- the status of an answer
@@ -97,20 +66,8 @@ abbrev pub answer_text : Answer → List ℕ
 answer_text (Ok output) = text_bytes output.text
 answer_text (Err refusal) = refusal_text refusal
 
--- the output has the status, the report and the text of this answer
-pub record IsOutputOf (answer : Answer) (reported : Output) : Type 0 where
-  pub status : reported.status ≡ answer_status answer
-  pub report : reported.report ≡ answer_report answer
-  pub text : text_bytes reported.text ≡ answer_text answer
-
 -- the script was run: it is within the limits, and the report is a report of a run of it
 pub record IsRan (script : Script) (report : Report) : Type 0 where
-  pub limits : IsInLimits script
-  pub run : IsRunOf script report
-
--- the report is a report of a run of some script within the limits
-pub record IsOfScript (report : Report) : Type 0 where
-  pub script : Script
   pub limits : IsInLimits script
   pub run : IsRunOf script report
 

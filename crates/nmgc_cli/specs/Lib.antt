@@ -2,7 +2,8 @@ pub mod Answer
 pub mod Bench
 pub mod Claimed
 pub mod Marks
+pub mod Output
+pub mod Parts
 pub mod Program
 pub mod Task
-pub mod Output
 pub mod laws

@@ -1,9 +1,9 @@
 -- The output of `marks N`: the names that strong fields reach from a last world's registers and queues and the slots of g.
-use Rattle.std.specs.Prelude.{◌≡◌, ℕ, List, [], ◌∷◌, ◌++◌, length, codes, decimal}
+use Rattle.std.specs.Prelude.{◌≡◌, ℕ, List, [], ◌∷◌, ◌++◌, length, codes}
 use Rattle.std.specs.List.{flat_map}
 use Rattle.nmgc_world_spec.specs.{declared.value.Name.Name, World.World, Reach.Lists}
 use Rattle.nmgc_script.specs.{declared.script.Script.Script, Limits.IsInLimits}
-use Rattle.nmgc_journal.specs.{declared.report.Report.Report, declared.report.End.End, Text.name_text, Text.end_text}
+use Rattle.nmgc_journal.specs.{declared.report.Report.Report, declared.report.End.End, Text.name_text, Text.end_text, Summary.count_line}
 use Rattle.nmgc_run_spec.specs.{Lawful.IsLawful, Run.last_state}
 use Rattle.nmgc_pmark.specs.Strong.{IsStrong, roots_of}
 
@@ -13,8 +13,7 @@ name_line name = name_text name ++ 10 ∷ []
 
 -- the lines of marked names: the number of markers, the number of names reached, each of the names, and the end of the run
 abbrev pub marks_lines : ℕ → List Name → End → List ℕ
-marks_lines markers names end = (codes "marks " ++ decimal markers ++ 10 ∷ []) ++ (codes "reached " ++ decimal (length names) ++ 10 ∷ []) ++
-    flat_map name_line names ++ end_text end
+marks_lines markers names end = count_line (codes "marks ") markers ++ count_line (codes "reached ") (length names) ++ flat_map name_line names ++ end_text end
 
 -- the last world of a lawful report's run
 abbrev pub last_world : (script : Script) (report : Report) → IsLawful script report → World

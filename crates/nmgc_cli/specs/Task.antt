@@ -23,23 +23,10 @@ Asks arguments Image = arguments ≡ codes "image" ∷ []
 Asks arguments (Retain name) = (arguments ≡ codes "retain" ∷ name_text name ∷ []) × IsName name
 Asks arguments (Marks markers) = (arguments ≡ codes "marks" ∷ decimal markers ∷ []) × AreMarkers markers
 
--- the task's number, if it has one, is allowed: the batches of a bench, or the markers of `marks N`
-abbrev pub CanBeDone : Task → Type 0
-CanBeDone Run = Unit {0}
-CanBeDone (Bench batches) = IsBench batches
-CanBeDone Upgrade = Unit {0}
-CanBeDone Image = Unit {0}
-CanBeDone (Retain name) = Unit {0}
-CanBeDone (Marks markers) = AreMarkers markers
-
--- the task reads the source
+-- the task reads the source: it is no bench
 abbrev pub IsReading : Task → Type 0
-IsReading Run = Unit {0}
 IsReading (Bench batches) = ⊥
-IsReading Upgrade = Unit {0}
-IsReading Image = Unit {0}
-IsReading (Retain name) = Unit {0}
-IsReading (Marks markers) = Unit {0}
+IsReading _ = Unit {0}
 
 -- the task reads a script and runs it
 abbrev pub IsRunning : Task → Type 0

@@ -7,7 +7,7 @@
 ghost use Rattle.std.specs.Prelude.{◌≡◌, ℕ, [], ◌∷◌, ◌++◌, decimal, map, string_bytes, IfOk, IfSome, IfNone, OnOk};
 ghost use Rattle.std.specs.List.{flat_map};
 ghost use Rattle.nmgc_pmark.specs.Stops.{root_words};
-ghost use Rattle.nmgc_cli.specs.{Claimed.AreClaimsOf, Marks.IsMarksText, Marks.marks_lines, Marks.name_line, Answer.IsRan, Answer.IsOfScript, Task.Asks, Task.AreMarkers, Output.AnswersScript, Output.AnswersWithReport, declared.task.Task.TheVariants.Marks};
+ghost use Rattle.nmgc_cli.specs.{Claimed.AreClaimsOf, Marks.IsMarksText, Marks.marks_lines, Marks.name_line, Answer.IsRan, Parts.IsOfScript, Task.Asks, Task.AreMarkers, Output.AnswersScript, Output.AnswersWithReport, declared.task.Task.TheVariants.Marks};
 ghost use Rattle.nmgc_io.specs.Counts.{Rose};
 
 use crate::answer::Refusal;

@@ -1,6 +1,7 @@
 //! The texts of refusals.
-ghost use Rattle.std.specs.Prelude.{◌≡◌, IfOk};
-ghost use Rattle.nmgc_cli.specs.Answer.{IsBad, refusal_text, cause_text, bad_line, bad_image_line};
+ghost use Rattle.std.specs.Prelude.{◌≡◌, IfOk, codes};
+ghost use Rattle.nmgc_journal.specs.Summary.{count_line};
+ghost use Rattle.nmgc_cli.specs.{Parts.IsBad, Answer.refusal_text, Answer.cause_text, Answer.bad_line};
 
 use crate::answer::Refusal;
 use nmgc_io::push_number;
@@ -37,7 +38,7 @@ pub fn bad_line(alloc: Global, line: u32, cause: Cause) -> Result<Vec<u8>, NoMem
 
 /// Returns the text of an image's first bad line: its number, counted from 1.
 pub fn bad_image_line(alloc: Global, line: u32) -> Result<Vec<u8>, NoMemory>
-    ensures { IfOk result (λ text. text.items ≡ bad_image_line line) }
+    ensures { IfOk result (λ text. text.items ≡ count_line (codes "bad image line ") line) }
 {
     let mut text = Vec::from_slice(alloc, b"bad image line ")?;
     push_number(&mut text, u64::from(line))?;

@@ -4,7 +4,7 @@
 ghost use Rattle.std.specs.Prelude.{◌≡◌, ◌≤◌, length, sum_by, vec_len, IfOk, IfErr, MatchResult};
 ghost use Rattle.nmgc_io.specs.Counts.{Rose};
 ghost use Rattle.nmgc_limits.specs.Limits.{most_script_bytes};
-ghost use Rattle.nmgc_script.specs.{Faults.IsFaultOf, Spelling.Spells, declared.script.Script.Script as Spelled, Limits.IsInLimits};
+ghost use Rattle.nmgc_script.specs.{Results.IsFaultOf, Spelling.Spells, declared.script.Script.Script as Spelled, Limits.IsInLimits};
 ghost use Rattle.nmgc_run_spec.specs.Crowded.{IsRunOf};
 ghost use Rattle.nmgc_cli.specs.{Answer.IsRan, Output.AnswersScript, Output.AnswersBytes, Output.AnswersWithReport, Output.IsText};
 

@@ -5,7 +5,7 @@
 //! the status. Each task is in a file of its own.
 ghost use Rattle.std.specs.Prelude.{◌≡◌, map, string_bytes, IfSome};
 ghost use Rattle.nmgc_io.specs.Counts.{Rose};
-ghost use Rattle.nmgc_cli.specs.{Answer.Answer, Answer.IsOutputOf, Task.CanBeDone, Task.IsReading};
+ghost use Rattle.nmgc_cli.specs.{Answer.Answer, Parts.IsOutputOf, Parts.CanBeDone, Task.IsReading};
 ghost use Rattle.nmgc_cli.specs.Output.{IsAnswer, Answers, Ends, IsReport, IsComplete, IsBenchComplete, IsUpgrade, IsUpgradeComplete, IsPath, IsRetainComplete, ReadsNothing};
 
 use crate::answer::Refusal;

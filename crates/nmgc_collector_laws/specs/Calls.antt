@@ -1,6 +1,6 @@
 -- The marker's calls, by their own contracts: the facts about the cycle that a collector keeps after each call.
 use Rattle.std.specs.{Prelude.ℕ, Prelude.◌≡◌, Prelude.◌+◌, Prelude.◌≤◌, Prelude.List, Prelude.length, List.flat_map}
-use Rattle.nmgc_world_spec.specs.World.{IsWorld}
+use Rattle.nmgc_world_spec.specs.Known.{IsWorld}
 use Rattle.nmgc_world_laws.specs.Reachable.{IsSound}
 use Rattle.nmgc_object.specs.declared.layout.Layout.{Layout}
 use Rattle.nmgc_snapshot_laws.specs.State.{State as Core, opening}

@@ -12,7 +12,7 @@ use Rattle.nmgc_stop_spec.specs.{Nurseries.AreUsed, Nurseries.LieInOrder, Nurser
 use Rattle.nmgc_snapshot_laws.specs.State.{State as Core, names_of}
 use Rattle.nmgc_journal.specs.declared.report.RoundRows.{RoundRows}
 use Rattle.nmgc_run_spec.specs.State.{Plan, State, Progress, idle, marking, sweeping, phase_of, layout_of, start}
-use Rattle.nmgc_run_spec.specs.{Round.IsRound, Stop.answer_of, Run.Run, Run.IsRun, Run.AreRowsOf, Run.last_state, Heap.HoldsAtStop, Heap.HoldsAfterRound, Heap.snapshots}
+use Rattle.nmgc_run_spec.specs.{Round.IsRound, Stop.answer_of, Run.Run, Run.IsRun, Run.AreRowsOf, Run.last_state, Heap.HoldsAtStop, AfterRound.HoldsAfterRound, Heap.snapshots}
 use Rattle.nmgc_collector_laws.specs.{Seen.CollectorSeen, Seen.MutatorSeen, Seen.ends_of, Seen.nurseries_of, Seen.recorded_in, Seen.young_weaks_in, Seen.finalised_in, Marker.IsCoreOf, Marker.AreRemembered, Marker.IsTied, Worked.ListsFinalised}
 use Rattle.nmgc_mark.specs.{Seen.MarkerSeen, Marker.HasRoomToMark}
 use Rattle.nmgc_sweep.specs.Sweeping.{HasListedNothing, HasNoted, IsSweeping}

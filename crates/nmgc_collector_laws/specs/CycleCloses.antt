@@ -3,7 +3,7 @@ use Rattle.std.specs.Prelude.{ℕ, ◌≡◌, true, List, [], ◌↔◌}
 use Rattle.nmgc_world_spec.specs.{declared.value.Name.Name, Reach.Lists, Reach.closed, Listing.Counts}
 use Rattle.nmgc_world_laws.specs.Reachable.{IsSound}
 use Rattle.nmgc_snapshot_laws.specs.Machine.{AreEmpty}
-use Rattle.nmgc_segment.specs.{Segment.IsMarked, Marks.epoch_of}
+use Rattle.nmgc_segment.specs.{Invariant.IsMarked, Marks.epoch_of}
 use Rattle.nmgc_alloc.specs.{Numbered.Segments, Numbered.nth, AllocState.LiesIn}
 use Rattle.nmgc_heap_spec.specs.{Changes.AreEarlier, Places.Place, Roots.ListsWeaks}
 use Rattle.nmgc_round.specs.{Objects.earlier, View.Opening}

@@ -1,11 +1,12 @@
 -- The marker of a cycle is tied to a marking machine: events with the rows since the snapshot lead to its marks and queue.
 use Rattle.std.specs.Prelude.{ℕ, ◌≡◌, ◌↔◌, ◌+◌, List, [], ◌∷◌, length, map, filter, Contains, IsSome, false, All}
 use Rattle.nmgc_world_spec.specs.{declared.value.Name.Name, World.World, World.node_of}
-use Rattle.nmgc_segment.specs.{Segment.IsMarked, Segment.InSnapshot, Marks.epoch_of}
+use Rattle.nmgc_segment.specs.{Invariant.IsMarked, Invariant.InSnapshot, Marks.epoch_of}
 use Rattle.nmgc_alloc.specs.{Numbered.nth, Numbered.Segments, AllocState.AllocState, AllocState.LiesIn}
 use Rattle.nmgc_heap_spec.specs.Places.{Place}
 use Rattle.nmgc_snapshot_laws.specs.{declared.event.Entry.Entry, declared.event.Event.Event, State.State as Core, State.opening, Machine.AreEmpty, Machine.is_pushed_in, Run.Runs}
 use Rattle.nmgc_stop_spec.specs.Cycle.{Cycle}
+use Rattle.nmgc_run_spec.specs.Closing.{owed}
 use Rattle.nmgc_mark.specs.Seen.{MarkerSeen}
 
 -- the addresses are the addresses of the names, in order
@@ -14,13 +15,15 @@ AreAt places [] [] = Unit {0}
 AreAt places (at ∷ ats) (name ∷ names) = Contains places (record { at = at; name = name }) × AreAt places ats names
 AreAt places _ _ = ⊥
 
--- a cycle's marking machine: events whose commands are the rows since the snapshot lead to it, and nothing is owed
+-- a cycle's marking machine: events whose commands are the rows since the snapshot lead to it, and nothing is owed. The names
+-- of the snapshot that the earlier rounds owed are marked
 pub record IsCoreOf (c : Cycle) (w : World) (core : Core) : Type 0 where
   pub events : List Event
   pub runs : Runs (opening c.snapshot) events c.rows core
   pub open_yet : core.is_closed ≡ false
   pub world_is : core.world ≡ w
   pub nothing_owed : AreEmpty core.owed
+  pub handed : (name : Name) → Contains (owed c.snapshot c.earlier) name → IsSome (node_of c.snapshot name) → Contains core.marked name
 
 -- the remembered entries whose names are in the snapshot are exactly the names that the machine pushed for the mutator
 pub record AreRemembered (c : Cycle) (places : List Place) (entries : List ℕ) (pushed : List Name) : Type 0 where

@@ -1,6 +1,6 @@
 -- A heap at a stop when a cycle begins: its segments are prepared, and the collector uses the world as the snapshot.
 use Rattle.std.specs.Prelude.{ℕ, ◌≡◌, ◌+◌, List, map}
-use Rattle.nmgc_world_spec.specs.World.{IsWorld}
+use Rattle.nmgc_world_spec.specs.Known.{IsWorld}
 use Rattle.nmgc_segment.specs.declared.state.State.TheVariants as stands
 use Rattle.nmgc_object.specs.{FinQueue.FinQueue, declared.layout.Layout.Layout}
 use Rattle.nmgc_alloc.specs.{Numbered.Segments, Segments.IsSegments, AllocState.IsIn, AllocState.NoneIs, CycleSteps.prepared, Settled.AreSettled}

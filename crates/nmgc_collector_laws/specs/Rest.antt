@@ -1,6 +1,6 @@
 -- A heap that represents a world between two rounds, and the opening of the next round.
 use Rattle.std.specs.Prelude.{ℕ, ◌≡◌, ◌<◌, false, List, [], length, map, slice_get, Contains, Some}
-use Rattle.nmgc_world_spec.specs.World.{World, IsWorld}
+use Rattle.nmgc_world_spec.specs.{World.World, Known.IsWorld}
 use Rattle.nmgc_object.specs.declared.layout.Layout.{Layout}
 use Rattle.nmgc_snapshot_laws.specs.State.{unmarked}
 use Rattle.nmgc_alloc.specs.{Numbered.Segments, Segments.IsSegments}

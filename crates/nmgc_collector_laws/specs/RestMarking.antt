@@ -1,6 +1,6 @@
 -- A heap that represents a world between two rounds of a marking cycle, and the opening of the next round.
 use Rattle.std.specs.Prelude.{ℕ, ◌≡◌, ◌<◌, true, List, [], ◌∷◌, ◌++◌, length, map, slice_get, Contains, Some, All}
-use Rattle.nmgc_world_spec.specs.{World.World, World.IsWorld, History.Row}
+use Rattle.nmgc_world_spec.specs.{World.World, Known.IsWorld, History.Row}
 use Rattle.nmgc_world_laws.specs.Reachable.{IsSound}
 use Rattle.nmgc_object.specs.declared.layout.Layout.{Layout}
 use Rattle.nmgc_snapshot_laws.specs.{declared.event.Entry.Entry, Machine.AreEmpty, State.State as Core}
@@ -13,7 +13,7 @@ use Rattle.nmgc_collector_laws.specs.{Rest.hand_of, Rest.IsResting, Worked.regis
 
 -- the cycle with further rows
 abbrev pub with_rows : Cycle → List Row → Cycle
-with_rows c rows = record c { rows = c.rows ++ rows }
+with_rows c rows = record c { rows = c.rows ++ rows; earlier = c.rows }
 
 -- a machine at rest at a stop: the cycle's rows lead to the world, nothing is owed or pushed, and no queued object was read
 pub record IsMachineAtRest (c : Cycle) (w : World) (core : Core) : Type 0 where

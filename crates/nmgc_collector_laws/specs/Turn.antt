@@ -1,6 +1,6 @@
 -- From a stop to the promotion of the next one: statements of laws.
 use Rattle.std.specs.Prelude.{ℕ, ◌≡◌, ◌≤◌, ◌⊎◌, List, [], ◌∷◌, length, map, slice_get, slice_index_or, Some, All}
-use Rattle.nmgc_world_spec.specs.{World.World, World.IsWorld, History.Row, History.IsLegal, History.rows_of, History.replayed}
+use Rattle.nmgc_world_spec.specs.{World.World, Known.IsWorld, History.Row, History.IsLegal, History.rows_of, History.replayed}
 use Rattle.nmgc_object.specs.Places.{nursery_place, reserve_count}
 use Rattle.nmgc_alloc.specs.{Numbered.Segments, Segments.IsSegments, Reserve.free_count}
 use Rattle.nmgc_heap_spec.specs.{Places.Place, Changes.AreEarlier, Roots.RepresentsRoots, Moves.Moved, Moves.settled}

@@ -1,5 +1,5 @@
 //! The laws of rounds and stops beside a marking cycle. Each contract is the law. A body calls the laws that it needs.
-ghost use Rattle.nmgc_collector_laws.specs.{RestMarking.RestOpens, Owed.SlicesAreGathered, Owed.SlicesAreOwed, Owed.MachineGoesOn, Tie.CoreHasSnapshot, Tie.RoundBeginsTied, Prepares.StopIsPrepared, Prepares.StopBegins, Calls.SnapshotIsMarking, Calls.RoundIsMarking, Calls.AddIsMarking, Resolves.FinishMayResolve, Resolves.ResolveCloses, Resolves.ClosedHolds, Resolves.ClosedCycleSweeps, Joins.JoiningLists, Joins.JoinersAreNew, Joins.FewerListed, Closes.ClosingIsSoon, Closes.ClosingComes, Closes.ClosingIsPaced, Sweeps.MarkedWait, Sweeps.PlacedWait, Sweeps.SweepingStays, Sweeps.SettledStays, Drops.RoundFreesUntracked, Drops.StopFreesUntracked, Drops.FreeGrows, Drops.SweptHoldsAfterRound, Drops.SweptHoldsAtStop, Drops.DropKeepsRound, Heaps.HeapRests, Heaps.RoundHolds, Heaps.MarkedHolds, Keeps.PromotionKeepsMarking, Keeps.PaceAfterRound, Keeps.PaceAtStop, Keeps.PaceBegins};
+ghost use Rattle.nmgc_collector_laws.specs.{RestMarking.RestOpens, Owed.SlicesAreGathered, Owed.SlicesAreOwed, Owed.MachineGoesOn, Tie.CoreHasSnapshot, Tie.RoundBeginsTied, Prepares.StopIsPrepared, Prepares.StopBegins, Calls.SnapshotIsMarking, Calls.RoundIsMarking, Calls.AddIsMarking, Resolves.FinishMayResolve, Resolves.ResolveCloses, Resolves.ClosedHolds, Resolves.ClosedCycleSweeps, Joins.JoiningLists, Joins.JoinersAreNew, Joins.FewerListed, Closes.ClosingIsSoon, Closes.ClosingComes, Closes.ClosingIsPaced, Closes.WaitingIsPaced, Sweeps.MarkedWait, Sweeps.PlacedWait, Sweeps.SweepingStays, Sweeps.SettledStays, Drops.RoundFreesUntracked, Drops.StopFreesUntracked, Drops.FreeGrows, Drops.SweptHoldsAfterRound, Drops.SweptHoldsAtStop, Drops.DropKeepsRound, Heaps.HeapRests, Heaps.RoundHolds, Heaps.MarkedHolds, Keeps.PromotionKeepsMarking, Keeps.PaceAfterRound, Keeps.PaceAtStop, Keeps.PaceBegins};
 
 use crate::ties::{a_cycle_closes as weaks_close, ties_agree};
 use nmgc_mark::laws::{a_round_begins_tied, a_round_ends_tied, marks_are_of_the_snapshot};
@@ -107,15 +107,17 @@ pub fn freed_places_can_be_dropped()
     ensures remembered { DropKeepsRound }
 {}
 
-/// Proves that a cycle at its pace (`IsPacedAfterRound`) closes neither too late (`IsSoon`) nor too early (`IsPaced`). Let
-/// the cycle keep n objects, and let at most n be marked. Then at most one round has passed since the snapshot, or the rounds
-/// before the last can't scan n objects. So at most (n - 1) / quota + 1 rounds have passed, with the quotient rounded down
-/// and a quota of at least 1. Let a round have passed in a sound cycle, and let its tied marker have nothing left to scan. If
-/// no object was owed, the rounds can scan all that the snapshot's roots reach.
+/// Proves that a cycle at its pace (`IsPacedAfterRound`) closes neither too late (`IsSoon`) nor too early (`IsPaced`), and
+/// goes on only if it may (`MayWait`). Let the cycle keep n objects, and let at most n be marked. Then at most one round has
+/// passed since the snapshot, or the rounds before the last can't scan n objects. So at most (n - 1) / quota + 1 rounds have
+/// passed, with the quotient rounded down and a quota of at least 1. Let a round have passed in a sound cycle with a tied
+/// marker. If the marker has nothing left to scan, the rounds can scan all steady objects, and all that the snapshot's roots
+/// reach if no object was owed. Otherwise more objects are held than the rounds can scan.
 pub fn a_closing_is_in_bounds()
     ensures soon { ClosingIsSoon }
     ensures comes { ClosingComes }
     ensures paced { ClosingIsPaced }
+    ensures waits { WaitingIsPaced }
 {}
 
 /// Proves that a promotion (`HasPromoted`) keeps the invariant of a marking cycle (`IsMarking`), if marker, sweeper and

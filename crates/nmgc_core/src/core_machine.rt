@@ -103,7 +103,7 @@ impl Model for Core {
 }
 
 impl Core {
-    ghost use Rattle.nmgc_world_spec.specs.{World.IsWorld, World.node_of, Reach.Lists, Step.CanApply, Step.step, History.finalised_by};
+    ghost use Rattle.nmgc_world_spec.specs.{Known.IsWorld, World.node_of, Reach.Lists, Known.CanApply, Step.step, History.finalised_by};
     ghost use Rattle.nmgc_snapshot_laws.specs.{State.names_of, State.opening, State.mark_name, State.mark_value, State.mark_read, State.mark_values, State.is_new, State.unmarked, Run.IsRun, Machine.Passes, Machine.advanced};
     ghost use Rattle.nmgc_snapshot_laws.specs.declared.event.Event.TheVariants as event;
 

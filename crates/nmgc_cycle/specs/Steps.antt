@@ -4,7 +4,7 @@
 -- represents a state of the run at that stop. Only the facts on the pace and on remembered entries differ.
 use Rattle.std.specs.Prelude.{ℕ, ◌≡◌, ◌+◌, ◌++◌, ◌≤◌, List, [], true, false}
 use Rattle.nmgc_stop_spec.specs.{Cycle.IsKeptObject, Cycle.Cycle, Nurseries.AreEmpty}
-use Rattle.nmgc_run_spec.specs.{Closing.Closes, Closing.ClosesOrWaits, Closing.MayClose, Heap.HoldsAtStop, State.State, State.marking, State.cycle_started, State.plan_of, State.layout_of, Stop.EndsOrWaits, Stop.BeginsOrWaits}
+use Rattle.nmgc_run_spec.specs.{Closing.Closes, Closing.ClosesOrWaits, Closing.MayClose, Closing.MayWait, Heap.HoldsAtStop, State.State, State.marking, State.cycle_started, State.plan_of, State.layout_of, Stop.EndsOrWaits, Stop.BeginsOrWaits}
 use Rattle.nmgc_collector_laws.specs.{Collector.Matches, Collector.AreNurseries, Collector.EachMutator, Collector.IsEmptied, Collector.HoldsInCycle, Collector.IsPacedAtStop, Collector.IsPacedAfterRound, Seen.CollectorSeen, Seen.MutatorSeen, Seen.ends_of, Seen.nurseries_of}
 use Rattle.nmgc_run_laws.specs.{Course.IsStateInCourse, Sound.IsSoundState}
 use Rattle.nmgc_world_spec.specs.Listing.{Counts}
@@ -15,9 +15,11 @@ use Rattle.nmgc_cycle.specs.{declared.collector.Collector.Collector, declared.pr
 use Rattle.nmgc_cycle.specs.declared.progress.Progress.TheVariants as doing
 use Rattle.nmgc_cycle.specs.Cycles.{HasTaken, CanClose, Closes as ClosesThen, HasClosed, IsClosed, Ends, CanBegin, HasStarted, Begins}
 
--- the pace of marking after adding: if the last work left something, the cycle goes on in pace. Otherwise it may be closed
+-- the pace of marking after adding: if the last work left something, the cycle may go on, and does so in pace. Otherwise it
+-- may be closed
 pub record IsPacedWithin (quota : ℕ) (c : Cycle) (s : State) (seen : CollectorSeen) : Type 0 where
   pub goes_on : seen.work.empty ≡ false → IsPacedAtStop quota c s seen
+  pub waits : seen.work.empty ≡ false → MayWait quota c s.number
   pub closes : seen.work.empty ≡ true → (kept : ℕ) → seen.marker.marked ≤ kept → Counts (IsKeptObject c) kept → MayClose quota c s.number
 
 -- the pace of marking after the promotion: the same as after the round, which came after the snapshot

@@ -1,6 +1,6 @@
 -- The parts of a stop: its promotion, the commands left in programs, and its answer.
 use Rattle.std.specs.Prelude.{ℕ, ◌≡◌, ◌⊎◌, ◌<◌, Contains, List, [], map, length, slice_index, slice_index_or, Option, Some, None, IsSome}
-use Rattle.nmgc_world_spec.specs.{declared.value.Name.Name, declared.command.Command.Command, World.IsWorld}
+use Rattle.nmgc_world_spec.specs.{declared.value.Name.Name, declared.command.Command.Command, Known.IsWorld}
 use Rattle.nmgc_alloc.specs.{AllocState.AllocState, Stands.StandsFor, Reserve.free_count, Segments.IsSegments}
 use Rattle.nmgc_heap_spec.specs.{Moves.Moved, Moves.settled, Roots.ListsWeaks}
 use Rattle.nmgc_weak.specs.{declared.weaks.OldWeak.OldWeak, Closes.KeepsOldWeaks, Weaks.places_of}

@@ -14,7 +14,7 @@
 //! Easy to get wrong: a command that waits for room in the nursery wasn't answered, so its program still has it left.
 ghost use Rattle.std.specs.Prelude.{◌≡◌, ℕ, ◌+◌, ◌<◌, ◌≤◌, ◌⊎◌, [], length, map, slice_get, slice_index, vec_len, vec_capacity, Some, IfOk};
 ghost use Rattle.nmgc_limits.specs.declared.mutators.TheConstants.{SHARED_SLOTS};
-ghost use Rattle.nmgc_object.specs.{declared.layout.TheConstants.SHARED_PLACE, declared.size.TheConstants.HEADER_WORDS, Places.IsLayout};
+ghost use Rattle.nmgc_object.specs.{declared.layout.TheConstants.SHARED_PLACE, declared.size.TheConstants.HEADER_WORDS, Layouts.IsLayout};
 ghost use Rattle.nmgc_round.specs.Empty.{IsEmptyHeap};
 ghost use Rattle.nmgc_mutator.specs.{declared.mutator.Mutator.Mutator as MutatorShown, Ready.IsNew};
 ghost use Rattle.nmgc_script.specs.{declared.script.Script.Script as ScriptSeen, Limits.FitsScript, Limits.IsInLimits};

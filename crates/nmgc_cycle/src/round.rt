@@ -18,7 +18,7 @@ ghost use Rattle.std.specs.List.{list_any};
 ghost use Rattle.nmgc_alloc.specs.Segments.{IsSegments};
 ghost use Rattle.nmgc_round.specs.Gate.{passed};
 ghost use Rattle.nmgc_mutator.specs.declared.mutator.Mutator.{Mutator as MutatorSeen};
-ghost use Rattle.nmgc_run_spec.specs.Slice.{program_of};
+ghost use Rattle.nmgc_run_spec.specs.AfterRound.{program_of};
 ghost use Rattle.nmgc_limits.specs.{Limits.most_slice, declared.mutators.TheConstants.MAKERS};
 ghost use Rattle.nmgc_updrem.specs.{Lines.HasMetSo, Rings.AtLine, Rings.HavePolled};
 ghost use Rattle.nmgc_script.specs.Limits.{IsInLimits};

@@ -15,7 +15,7 @@
 //! Easy to get wrong: if no thread can be started, the caller does the work, one worker after the other. So nothing here may
 //! depend on two workers running side by side.
 ghost use Rattle.std.specs.Prelude.{◌≡◌, ◌↔◌, ◌+◌, ◌^◌, ◌<◌, ◌≤◌, [], IfOk, IsTrue, length, map, slice_index, vec_len, vec_capacity};
-ghost use Rattle.nmgc_run_spec.specs.Slice.{program_of};
+ghost use Rattle.nmgc_run_spec.specs.AfterRound.{program_of};
 ghost use Rattle.std.specs.{Thread.IsSync, List.list_any};
 ghost use Rattle.nmgc_updrem.specs.Rings.{HavePolled};
 ghost use Rattle.nmgc_cycle.specs.{Cycles.CanHelp, Cycles.HasHelped, Stopping.SomeIsLeft};

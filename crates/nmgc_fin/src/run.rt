@@ -4,10 +4,10 @@
 //! learns that no job is left. All jobs are pushed first. Then each worker takes jobs until it finds none, in a thread of its
 //! own if the system can start it. After all have returned, their passes are joined to the first pass, which has every part
 //! again. With this pass the last worker takes jobs until it finds none. Only then is it known that all jobs were taken.
-ghost use Rattle.std.specs.Prelude.{◌≡◌, ◌+◌, ◌-◌, ◌<◌, ◌≤◌, [], ◌++◌, length, vec_len, vec_capacity, IfOk, OnOk, All};
+ghost use Rattle.std.specs.Prelude.{true, ◌≡◌, ◌+◌, ◌-◌, ◌<◌, ◌≤◌, [], ◌++◌, length, vec_len, vec_capacity, IfOk, OnOk, All};
 ghost use Rattle.std.specs.Thread.{IsSync};
 ghost use Rattle.crossbeam_queue.specs.SegTies.{IsSegPassOf};
-ghost use Rattle.nmgc_fin.specs.{declared.run.TheConstants.MOST_WORKERS, Handles.AreNumbered, Handles.Handles, Handles.joined, Rule.hand, Rule.most_parts, Worker.IsWorker, Worker.AreWorkers, Worker.lists_of};
+ghost use Rattle.nmgc_fin.specs.{declared.run.TheConstants.MOST_WORKERS, Handles.AreNumbered, Handles.Handles, Handles.joined, Rule.hand, Rule.most_parts, Worker.IsWorker, Worker.AreWorkers, Worker.HaveEnded, Worker.lists_of};
 
 use crate::hand::Hand;
 use crate::job::Job;
@@ -118,6 +118,7 @@ fn hire(
             pass: queue.another::<Part>(pass),
             done,
             turns: 0,
+            has_ended: false,
         });
     }
     Ok(crew)
@@ -134,6 +135,7 @@ fn work_all<R: Threads + Wait + Sync, G: Gate>(
     requires workers { AreWorkers queue.now jobs.now crew.old }
     requires few { length crew.old ≤ MOST_WORKERS }
     ensures workers { AreWorkers queue.now jobs.now crew.new }
+    ensures ended { HaveEnded crew.new }
     ensures count { length crew.new ≡ length crew.old }
 {
     thread::for_each_mut(
@@ -142,7 +144,7 @@ fn work_all<R: Threads + Wait + Sync, G: Gate>(
         MOST_WORKERS as usize,
         &|number, worker: &mut Worker|
             requires { (number < MOST_WORKERS) × IsWorker queue.now jobs.now worker.now }
-            ensures { IsWorker queue.entry.now jobs.entry.now worker.exit.now }
+            ensures { IsWorker queue.entry.now jobs.entry.now worker.exit.now × (worker.exit.now.has_ended ≡ true) }
         { work_one(rt, queue, jobs, number as u8, worker, gate) },
     );
 }
@@ -157,7 +159,7 @@ fn work_one<R: Wait, G: Gate>(
     gate: &G,
 )
     requires { IsWorker queue.now jobs.now worker.old }
-    ensures { IsWorker queue.now jobs.now worker.new }
+    ensures { IsWorker queue.now jobs.now worker.new × (worker.new.has_ended ≡ true) }
 {
     let _ = jobs;
     worker.work(rt, queue, number, gate);
@@ -176,6 +178,7 @@ fn gather<R: Wait, G: Gate>(
     requires pass { IsSegPassOf queue.now pass }
     requires left { pass.me.view.client ≡ hand (most_parts - vec_len crew) jobs.now [] }
     requires crew { AreWorkers queue.now jobs.now crew.items }
+    requires ended { HaveEnded crew.items }
     requires count { (1 ≤ vec_len crew) × (vec_len crew ≤ MOST_WORKERS) }
     ensures handled { IfOk result (λ handled. Handles jobs.now handled.by) }
     ensures lists { IfOk result (λ handled. length handled.by ≡ vec_len crew) }
@@ -191,14 +194,21 @@ fn gather<R: Wait, G: Gate>(
         pass: theirs,
         done,
         turns,
+        has_ended,
     } = last;
     queue.absorb::<Both>(&mut pass, theirs);
-    let mut last = Worker { pass, done, turns };
+    let mut last = Worker {
+        pass,
+        done,
+        turns,
+        has_ended,
+    };
     last.work(rt, queue, number, gate);
     let Worker {
         pass: _,
         done,
         turns: _,
+        has_ended: _,
     } = last;
     by.push(List::from_vec(done)?)?;
     Ok(Handled { by })
@@ -227,6 +237,7 @@ fn join_all(
             pass: theirs,
             done,
             turns: _,
+            has_ended: _,
         } = worker;
         queue.absorb::<Both>(pass, theirs);
         by.push(List::from_vec(done)?)?;

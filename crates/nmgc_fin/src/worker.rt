@@ -22,12 +22,14 @@ pub type JobQueue = RuledSegQueue<Job, Hand, Rules>;
 /// The permission to use the queue. Its knowledge exists only in proofs.
 pub type JobPass = SegPass<Job, Hand>;
 
-/// A worker: its pass, the jobs that it handled, and the number of its passes of the gate.
+/// A worker: its pass, the jobs that it handled, the number of its passes of the gate, and whether it has ended.
 #[derive(Drop)]
 pub struct Worker {
     pub pass: JobPass,
     pub done: Vec<Job>,
     pub turns: u64,
+    /// Whether `work` was called and found no more job.
+    pub has_ended: bool,
 }
 
 impl Worker {
@@ -39,6 +41,7 @@ impl Worker {
     {
         for _ in rt.forever() {
             let Some(job) = queue.pop_as::<Gets, R>(rt, &mut self.pass) else {
+                self.has_ended = true;
                 return;
             };
             self.turns = self.turns.saturating_add(1);

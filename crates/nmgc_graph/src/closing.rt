@@ -12,7 +12,7 @@ use nmgc_lists::NoMemory;
 use nmgc_world_spec::{MutatorState, Name, Node, Value};
 
 impl World {
-    ghost use Rattle.nmgc_world_spec.specs.{World.IsWorld, World.node_of, Reach.IsAliveWeak, Reach.IsInOrder, Reach.closed, Reach.closed_by};
+    ghost use Rattle.nmgc_world_spec.specs.{Known.IsWorld, World.node_of, Reach.IsAliveWeak, Reach.IsInOrder, Reach.closed, Reach.closed_by};
     ghost use Rattle.nmgc_graph.specs.Closing.{IsPartlyClosed};
 
     /// Closes the world with the weak pointers in `dead`. Each dies, and its finaliser, unless nil, joins the end of the

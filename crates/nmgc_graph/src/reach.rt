@@ -22,7 +22,7 @@ use nmgc_lists::{List, NoMemory};
 use nmgc_world_spec::{MutatorState, Name, Node, Parts, Value};
 
 impl World {
-    ghost use Rattle.nmgc_world_spec.specs.{World.AreKnown, World.parts_held, World.node_of, Reach.IsAliveWeak, Reach.IsLive, Reach.IsDead, Reach.IsKept, Reach.Lists, Order.ListsBefore};
+    ghost use Rattle.nmgc_world_spec.specs.{Known.AreKnown, World.parts_held, World.node_of, Reach.IsAliveWeak, Reach.IsLive, Reach.IsDead, Reach.IsKept, Reach.Lists, Order.ListsBefore};
     ghost use Rattle.nmgc_graph.specs.{Marks.HasPlaces, Marks.count_of, Waiting.key_of, Waiting.bounds_of, Waiting.bound_of, Waiting.AreFiled, Waiting.IsRevival};
     ghost use Rattle.nmgc_graph.specs.Search.{IsSearch, IsFollowed, parts_of, with_weak, with_weaks, starts_of, IsLiveSearch, IsLiveFound, IsKeptFound, IsLost, IsSetOf, is_lost, finalisers_of};
 

@@ -7,7 +7,7 @@ use nmgc_world_spec::{MutatorState, Node, Value};
 use std::alloc::Global;
 
 impl World {
-    ghost use Rattle.nmgc_world_spec.specs.World.{state_of, serial_of, IsWorld};
+    ghost use Rattle.nmgc_world_spec.specs.{World.state_of, World.serial_of, Known.IsWorld};
 
     /// Returns the allocator from which the world takes its memory. Takes constant time.
     pub fn alloc(&self) -> Global {

@@ -7,7 +7,7 @@ use crate::World;
 use nmgc_world_spec::Command;
 
 impl World {
-    ghost use Rattle.nmgc_world_spec.specs.Step.{CanApply};
+    ghost use Rattle.nmgc_world_spec.specs.Known.{CanApply};
 
     /// Returns whether `apply` takes a command: the mutator and the command's registers exist, and there is a serial for one
     /// more object. Takes no memory, and the time of `Command::has_registers`.

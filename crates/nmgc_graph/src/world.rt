@@ -9,7 +9,7 @@
 //!
 //! Easy to get wrong: after `NoMemory` nothing may have changed. So all memory is taken before a register is written.
 ghost use Rattle.std.specs.Prelude.{replicate, Some, None, [], ◌≡◌, ◌-◌, ◌<◌, ◌≤◌, ◌^◌, length, map, IfOk, IfSome, IsSome, OnOk, OnErr, slice_get, option_copied, All};
-ghost use Rattle.nmgc_world_spec.specs.{World.new_mutator, Command.IsOperand, Command.IsRegister, Step.value_of, Step.with_new, Step.next_name, Step.holding, Step.with_finaliser, Step.with_nth, declared.node.Node.Node as NodeAt, Change.given_or, Change.changed, Change.field_read, Change.result_read, Change.value_read};
+ghost use Rattle.nmgc_world_spec.specs.{World.new_mutator, Known.IsOperand, Known.IsRegister, Step.value_of, Step.with_new, Step.next_name, Step.holding, Step.with_finaliser, Step.with_nth, declared.node.Node.Node as NodeAt, Change.given_or, Change.changed, Change.field_read, Change.result_read, Change.value_read};
 
 use crate::change::{are_same, change_in_place, read_field, read_result, read_value};
 use nmgc_limits::{MAKERS, REGISTERS, SHARED_MAKER, SHARED_SLOTS};
@@ -39,7 +39,7 @@ impl Drop for World {
 }
 
 impl Model for World {
-    ghost use Rattle.nmgc_world_spec.specs.World.{World as Shown, IsWorld};
+    ghost use Rattle.nmgc_world_spec.specs.{World.World as Shown, Known.IsWorld};
 
     ghost Value = { Shown };
 
@@ -49,9 +49,9 @@ impl Model for World {
 }
 
 impl World {
-    ghost use Rattle.nmgc_world_spec.specs.World.{node_of, new_world, IsKnown, IsKnownReply, IsKnownChange, AreKnown, IsNodeOf, IsWorld, serial_of, Grows};
+    ghost use Rattle.nmgc_world_spec.specs.{World.node_of, World.new_world, Known.IsKnown, Known.IsKnownReply, Known.IsKnownChange, Known.AreKnown, Known.IsNodeOf, Known.IsWorld, World.serial_of, Known.Grows};
     ghost use Rattle.nmgc_world_spec.specs.Command.{HasRegisters};
-    ghost use Rattle.nmgc_world_spec.specs.Step.{step, value_for, values_for, born, with_register, keeping, object_of, read_object, asked, change_asked, change_into, change_object, change_node, next_finaliser, same_reply};
+    ghost use Rattle.nmgc_world_spec.specs.{Step.step, Step.value_for, Step.values_for, Step.born, Step.with_register, Step.keeping, Step.object_of, Step.read_object, Step.asked, Written.change_asked, Step.change_into, Step.change_object, Step.change_node, Step.next_finaliser, Step.same_reply};
 
     /// Makes the world of 1 to `MAKERS` mutators that have made nothing: registers and g's slots are nil, queues are empty.
     pub fn new(alloc: Global, mutators: u8) -> Result<Self, NoMemory>

@@ -1,11 +1,28 @@
 -- The changes to words, places and world after which the words still represent the world.
 --
 -- Each definition is a law's condition on one change. A round makes the changes one by one, and a stop makes many at once.
-use Rattle.std.specs.Prelude.{ℕ, ◌≡◌, ◌≢◌, ◌+◌, ◌<◌, ◌≤◌, ◌⊎◌, List, ◌∷◌, length, slice_index, slice_get, Contains, Some, None}
-use Rattle.nmgc_world_spec.specs.{declared.value.Name.Name, declared.value.Value.TheVariants.Ref, declared.node.Node.Node, declared.node.Node.TheVariants.Weak, World.World, World.node_of}
+use Rattle.std.specs.Prelude.{ℕ, ◌≡◌, ◌≢◌, ◌+◌, ◌<◌, ◌≤◌, ◌⊎◌, List, ◌∷◌, length, slice_index, slice_get, Contains, Some, None, IsSome}
+use Rattle.nmgc_world_spec.specs.{declared.value.Name.Name, declared.value.Value.TheVariants.Ref, declared.node.Node.Node, declared.node.Node.TheVariants.Weak, World.World, World.node_of, Known.IsWorld, declared.node.Kind.Kind}
 use Rattle.nmgc_object.specs.{Words.name_word, Words.IsHeader, Words.IsName, Places.InNursery, declared.layout.Layout.Layout, declared.size.TheConstants.HEADER_WORDS, declared.size.TheConstants.NAME_OFFSET}
-use Rattle.nmgc_heap_spec.specs.Shape.{Slot, holds, unspecified, header_of, size_of, slots_of, fixed_slots, free_slots, MayChange}
-use Rattle.nmgc_heap_spec.specs.{Tracked.IsTracked, Places.Place, Places.Fills, Places.HasSlots, Places.LiesWell, Places.IsBetween, Represents.IsNamed, Represents.IsObject, Represents.IsEarlier}
+use Rattle.nmgc_heap_spec.specs.Shape.{Slot, holds, unspecified, header_of, size_of, slots_of, fixed_slots, free_slots}
+use Rattle.nmgc_heap_spec.specs.{Tracked.IsTracked, Places.Place, Places.Fills, Places.HasSlots, Places.LiesWell, Places.IsBetween, Represents.IsNamed, Represents.IsObject}
+use Rattle.nmgc_world_spec.specs.declared.node.Kind.TheVariants as kind
+
+-- an earlier world, which the collector may still use: the world now has all its names, and its objects have the same headers
+pub record IsEarlier (e w : World) : Type 0 where
+  pub world : IsWorld e
+  pub names : (name : Name) → IsSome (node_of e name) → IsSome (node_of w name)
+  pub headers : (name : Name) (before now : Node) → node_of e name ≡ Some before → node_of w name ≡ Some now → header_of before ≡ header_of now
+
+-- the fields that may change while the object lives: a thunk's result, a weak pointer's value, and any field of a variable,
+-- an array or a stack. Header, name and all other fields never change
+abbrev pub MayChange : Kind → ℕ → Type 0
+MayChange kind.Con i = ⊥
+MayChange kind.Var i = Unit {0}
+MayChange kind.Arr i = Unit {0}
+MayChange kind.Thunk i = i ≡ 0
+MayChange kind.Weak i = i ≡ 1
+MayChange kind.Stack i = Unit {0}
 
 -- each of these worlds is an earlier world, which the collector may still use
 abbrev pub AreEarlier : List World → World → Type 0

@@ -3,7 +3,7 @@
 -- The places are given as a list, since a block in use may have an object no longer used. Its name is still there; its fields
 -- mean nothing. Two facts on segments are no part of this: their places are the blocks in use, and objects fit their blocks.
 use Rattle.std.specs.Prelude.{ℕ, ◌≡◌, ◌+◌, ◌≤◌, ◌⊎◌, List, length, slice_index, Contains, Some, None, IsSome}
-use Rattle.nmgc_world_spec.specs.{declared.value.Name.Name, declared.node.Node.Node, declared.node.Node.TheVariants.Weak, World.World, World.node_of, World.IsWorld}
+use Rattle.nmgc_world_spec.specs.{declared.value.Name.Name, declared.node.Node.Node, declared.node.Node.TheVariants.Weak, World.World, World.node_of}
 use Rattle.nmgc_object.specs.{Words.header_word, Words.name_word, Words.IsHeader, Words.IsName, Places.InNursery, Places.word_total, declared.layout.Layout.Layout, declared.size.TheConstants.HEADER_WORDS, declared.size.TheConstants.NAME_OFFSET}
 use Rattle.nmgc_heap_spec.specs.{Shape.header_of, Shape.size_of, Shape.slots_of, Shape.fixed_slots, Shape.free_slots, Places.Place, Places.HasSlots, Places.LiesWell, Places.HasZeros, Tracked.IsTracked}
 
@@ -53,9 +53,3 @@ pub record Represents (layout : Layout) (earlier : List World) (K : Name → Nod
 -- node at the opening, or the node that a new object began with
 abbrev pub NoNode : Name → Node → Type 0
 NoNode name node = ⊥
-
--- an earlier world, which the collector may still use: the world now has all its names, and its objects have the same headers
-pub record IsEarlier (e w : World) : Type 0 where
-  pub world : IsWorld e
-  pub names : (name : Name) → IsSome (node_of e name) → IsSome (node_of w name)
-  pub headers : (name : Name) (before now : Node) → node_of e name ≡ Some before → node_of w name ≡ Some now → header_of before ≡ header_of now

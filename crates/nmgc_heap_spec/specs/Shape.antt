@@ -1,8 +1,8 @@
 -- The object of a node: its header, and the specification of each of its fields.
 --
--- A command that changes a node leaves its header, so an object never changes size. Only fields of `MayChange` ever change.
-use Rattle.std.specs.Prelude.{ℕ, ◌≡◌, ◌+◌, ◌-◌, List, [], ◌∷◌, ◌++◌, length, map, replicate, Some, None}
-use Rattle.nmgc_world_spec.specs.{declared.value.Value.Value, declared.node.Node.Node, declared.node.Node.TheVariants.Con, declared.node.Node.TheVariants.Var, declared.node.Node.TheVariants.Arr, declared.node.Node.TheVariants.Thunk, declared.node.Node.TheVariants.Weak, declared.node.Node.TheVariants.Stack, declared.node.Kind.Kind}
+-- A command that changes a node leaves its header, so an object never changes size. Only fields of `Changes.MayChange` ever change.
+use Rattle.std.specs.Prelude.{ℕ, ◌+◌, ◌-◌, List, [], ◌∷◌, ◌++◌, length, map, replicate, Some, None}
+use Rattle.nmgc_world_spec.specs.{declared.value.Value.Value, declared.node.Node.Node, declared.node.Node.TheVariants.Con, declared.node.Node.TheVariants.Var, declared.node.Node.TheVariants.Arr, declared.node.Node.TheVariants.Thunk, declared.node.Node.TheVariants.Weak, declared.node.Node.TheVariants.Stack}
 use Rattle.nmgc_world_spec.specs.declared.node.Kind.TheVariants as kind
 use Rattle.nmgc_object.specs.{declared.words.Header.Header, declared.words.TheConstants.VAR_FIELDS, declared.words.TheConstants.WEAK_FIELDS, declared.size.TheConstants.HEADER_WORDS}
 
@@ -49,13 +49,3 @@ fixed_slots _ = []
 abbrev pub free_slots : Node → List Slot
 free_slots (Thunk free None) = unspecified ∷ map holds free
 free_slots _ = []
-
--- the fields that may change while the object lives: a thunk's result, a weak pointer's value, and any field of a variable,
--- an array or a stack. Header, name and all other fields never change
-abbrev pub MayChange : Kind → ℕ → Type 0
-MayChange kind.Con i = ⊥
-MayChange kind.Var i = Unit {0}
-MayChange kind.Arr i = Unit {0}
-MayChange kind.Thunk i = i ≡ 0
-MayChange kind.Weak i = i ≡ 1
-MayChange kind.Stack i = Unit {0}

@@ -1,8 +1,8 @@
 -- The words of a node, by its shape and by the parts of an object: statements of laws.
 use Rattle.std.specs.Prelude.{ℕ, ◌≡◌, ◌≢◌, ◌≤◌, List, slice_index, slice_get, Contains, Some}
-use Rattle.nmgc_world_spec.specs.{declared.value.Name.Name, declared.node.Node.Node, World.World, World.node_of, World.IsWorld, Step.shared_name}
+use Rattle.nmgc_world_spec.specs.{declared.value.Name.Name, declared.node.Node.Node, World.World, World.node_of, Known.IsWorld, Step.shared_name}
 use Rattle.nmgc_world_laws.specs.{Shape.kind_of, Shape.tag_of, Shape.part_count, Shape.words_of, Limits.IsNodeWithin, Limits.IsWithin}
-use Rattle.nmgc_object.specs.{Size.header_place, Size.name_place, Size.field_place, Size.object_size, Places.IsSegmentSize, Words.header_word, Words.name_word, Words.IsHeader, declared.layout.Layout.Layout}
+use Rattle.nmgc_object.specs.{Fields.header_place, Size.name_place, Fields.field_place, Fields.object_size, Layouts.IsSegmentSize, Words.header_word, Words.name_word, Words.IsHeader, declared.layout.Layout.Layout}
 use Rattle.nmgc_heap_spec.specs.{Shape.Slot, Shape.header_of, Shape.size_of, Shape.slots_of, Tracked.IsTracked, Places.Place, Places.Fills, Places.LiesWell, Represents.Represents}
 
 -- the header of a node is its shape, and its object has the number of words that header and shape give

@@ -9,7 +9,7 @@ pub use Rattle.nmgc_lists.specs.laws.Items.{contains_cases, contains_head, conta
 pub use Rattle.nmgc_mark.specs.{Beginning.most_blocks, Marker.HasRoomToMark, Seen.MarkerSeen}
 pub use Rattle.nmgc_minor.specs.{Found.IsFound, Found.IsStart, Inputs.Inputs, Placing.AreNurseries, Placing.CanPlaceEach, Placing.IsMarked, Promotes.CanPromoteWith, Promotes.IsStoppedBy, Start.inputs_by, Start.places_of, Start.words_of, Young.IsWithin, declared.young.Young.Young}
 pub use Rattle.nmgc_mutator.specs.{Ready.HasHand, Ready.IsNew, Ready.IsReady, Ready.IsUnused, Ready.IsWhole, Ready.Reserves, Slice.HasRoom, declared.mutator.Mutator.Mutator, laws.Common.reserved as new_reserved, laws.Starts.first_ready}
-pub use Rattle.nmgc_object.specs.{FinQueue.FinQueue, Places.IsLayout, Places.nursery_place, Places.word_total, Words.HasFields, Words.IsHeader, Words.IsName, Words.header_word, Words.name_word, declared.layout.Layout.Layout, declared.layout.Nursery.Nursery, declared.layout.TheConstants.FIRST_PLACE, declared.layout.TheConstants.SHARED_PLACE, declared.size.TheConstants.HEADER_WORDS, declared.words.Address.Address, declared.words.Header.Header}
+pub use Rattle.nmgc_object.specs.{FinQueue.FinQueue, Layouts.IsLayout, Places.nursery_place, Places.word_total, Words.HasFields, Words.IsHeader, Words.IsName, Words.header_word, Words.name_word, declared.layout.Layout.Layout, declared.layout.Nursery.Nursery, declared.layout.TheConstants.FIRST_PLACE, declared.layout.TheConstants.SHARED_PLACE, declared.size.TheConstants.HEADER_WORDS, declared.words.Address.Address, declared.words.Header.Header}
 pub use Rattle.nmgc_pmark.specs.Found.{CanMark, block_index}
 pub use Rattle.nmgc_round.specs.{Empty.first_opening, Empty.new_hand, Finishing.HasAll, Objects.IsLater, Objects.IsOld, Objects.IsSnapshot, Objects.Object, Ready.CanBear, Ready.CanGive, Ready.CanLoad, Ready.CanScan, Ready.CanStore, Ready.CanSwap, Ready.HasPart, Ready.IsMutator, Ready.Mutates, Ready.Names, Ready.scanned_by, Rule.IsOpening, Rule.IsQueued, Seat.IsAt, Seat.RoundSeat, Seat.opening_of, Seat.seen, Seating.all_together, Seating.alone, Seating.alones, Seating.collecting, Starting.CanOpen, Starting.HandStands, Known.CanFix, Known.CanTake, Known.taken, Known.known_answer, View.FixedWord, View.Hand, View.Opening, View.Part, View.Seen, View.UnbornWord, View.answered, View.bearing_object, View.blank, View.doing, View.finding, View.gave_birth, View.hand_now, View.hand_of, View.knowing, View.loaded, View.no_hand, View.plain, View.stored, View.storing, View.swapped, View.whole, View.word}
 pub use Rattle.nmgc_round.specs.{declared.table.Round.Round, laws.Common.alones_count, laws.Common.are_ready, laws.Common.map_count, laws.Gathering.gathered}
@@ -17,7 +17,7 @@ pub use Rattle.nmgc_snapshot_laws.specs.{State.entry_of, State.names_of, declare
 pub use Rattle.nmgc_sweep.specs.{NameTable.HaveEntries, Sweeper.AreLeft}
 pub use Rattle.nmgc_weak.specs.{Rows.leaves_at, declared.weaks.OldWeak.OldWeak}
 pub use Rattle.nmgc_world_laws.specs.laws.{NewWorlds.new_is_world, WorldSteps.step_keeps_world}
-pub use Rattle.nmgc_world_spec.specs.{Command.Fits, Command.HasRegisters, Command.IsOperand, Step.CanApply, Step.step, Wide.IsWide, World.IsWorld, World.World, World.new_world, World.node_of, World.serial_of, World.state_of, declared.command.Command.Command, declared.command.Command.TheVariants.Collect, declared.command.Command.TheVariants.Get, declared.command.Command.TheVariants.Nil, declared.command.Command.TheVariants.Num, declared.command.Command.TheVariants.Set, declared.command.Command.TheVariants.Yield, declared.command.Operand.TheVariants.Register, declared.command.Operand.TheVariants.Shared, declared.command.Reply.TheVariants.Fine, declared.node.Kind.Kind, declared.node.Kind.TheVariants.Arr, declared.node.Kind.TheVariants.Con, declared.node.Kind.TheVariants.Stack, declared.node.Kind.TheVariants.Thunk, declared.node.Kind.TheVariants.Var, declared.node.Kind.TheVariants.Weak, declared.node.Node.Node, declared.value.Name.Name, declared.value.Value.TheVariants.Number, declared.value.Value.TheVariants.Ref}
+pub use Rattle.nmgc_world_spec.specs.{Command.Fits, Command.HasRegisters, Known.IsOperand, Known.CanApply, Step.step, Wide.IsWide, Known.IsWorld, World.World, World.new_world, World.node_of, World.serial_of, World.state_of, declared.command.Command.Command, declared.command.Command.TheVariants.Collect, declared.command.Command.TheVariants.Get, declared.command.Command.TheVariants.Nil, declared.command.Command.TheVariants.Num, declared.command.Command.TheVariants.Set, declared.command.Command.TheVariants.Yield, declared.command.Operand.TheVariants.Register, declared.command.Operand.TheVariants.Shared, declared.command.Reply.TheVariants.Fine, declared.node.Kind.Kind, declared.node.Kind.TheVariants.Arr, declared.node.Kind.TheVariants.Con, declared.node.Kind.TheVariants.Stack, declared.node.Kind.TheVariants.Thunk, declared.node.Kind.TheVariants.Var, declared.node.Kind.TheVariants.Weak, declared.node.Node.Node, declared.value.Name.Name, declared.value.Value.TheVariants.Number, declared.value.Value.TheVariants.Ref}
 pub use Rattle.std.proofs.{Common.All, Common.Bool, Common.List, Common.Some, Common.[], Common.ap, Common.append-nil, Common.arith, Common.below_more, Common.drop, Common.eqb, Common.false, Common.get_or, Common.inl, Common.inr, Common.length, Common.length-append, Common.length-set, Common.lit<, Common.lit≤, Common.map, Common.refl, Common.replicate, Common.rules, Common.set, Common.slice_index, Common.subst, Common.suc, Common.sym, Common.take, Common.true, Common.zero, Common.ℕ, Common.◌*◌, Common.◌++◌, Common.◌+◌, Common.◌-◌, Common.◌<◌, Common.◌∙◌, Common.◌∷◌, Common.◌≡◌, Common.◌≢◌, Common.◌≤◌, Common.◌⊎◌, Math.ListN.get_or-eq_default, Math.Nat.min-le_left, Math.Nat.mul-le-mul_right}
 pub use Rattle.std.proofs.lemmas.{Bool.cases_eq, Bool.cases_lt, Bool.cases_order, List.get_or-replicate, List.get_or_default, List.length-replicate, List.map-append, List.Elements.All-cons, List.Elements.All-from_recursion, List.Elements.All-get_or, List.Elements.All-nil}
 pub use Rattle.std.specs.{List.flat_map, List.refill, Prelude.Contains, Prelude.min, Prelude.not, Prelude.slice_get, Prelude.slice_index_or}

@@ -8,6 +8,7 @@ pub mod Plain
 pub mod Printing
 pub mod Reaching
 pub mod Reading
+pub mod Results
 pub mod Shown
 pub mod Shows
 pub mod Spelling

@@ -1,5 +1,5 @@
 //! Laws of images. Each function here does nothing; its contract is a law.
-ghost use Rattle.nmgc_image.specs.{Left.ShownIsImage, Spelling.OneImage};
+ghost use Rattle.nmgc_image.specs.{Left.ShownIsImage, Results.OneImage};
 
 /// Proves that an image is well-formed (`IsImage`) if it shows a world (`IsWorld`) within the limits of scripts (`IsWithin`).
 /// The segments of these limits have at most `most_object_words` words.

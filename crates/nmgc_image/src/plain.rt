@@ -5,7 +5,7 @@
 ghost use Rattle.std.specs.Prelude.{◌≡◌, ◌+◌, ◌^◌, ◌<◌, ◌++◌, ◌∷◌, codes, decimal, length, map, All, IfOk, IfSome, OnOk};
 ghost use Rattle.nmgc_journal.specs.Text.{IsValue, name_text, value_text};
 ghost use Rattle.nmgc_object.specs.Words.{IsName};
-ghost use Rattle.nmgc_io.specs.Text.{after_spaces};
+ghost use Rattle.nmgc_io.specs.Spaced.{after_spaces};
 ghost use Rattle.nmgc_image.specs.{Plain.IsPlain, Plain.IsPlainNode};
 
 use crate::LineFault;

@@ -2,7 +2,7 @@
 ghost use Rattle.std.specs.Prelude.{◌≡◌, ◌∷◌, [], ◌++◌, map, IfOk, OnOk};
 ghost use Rattle.nmgc_journal.specs.Text.{value_text};
 ghost use Rattle.nmgc_world_spec.specs.World.{World as WorldOf};
-ghost use Rattle.nmgc_io.specs.Text.{after_spaces, spaced};
+ghost use Rattle.nmgc_io.specs.{Spaced.after_spaces, Text.spaced};
 ghost use Rattle.nmgc_image.specs.{declared.image.Image.Image as ImageOf, Left.IsLeftAs, Shows.Shows, Printing.printed};
 ghost use Rattle.nmgc_image.specs.Spelling.{Spells, image_text, first_words, mutator_words, register_words, queue_words, node_words, entry_words, own_lines, mutator_lines};
 

@@ -1,5 +1,5 @@
 -- The number of bytes that a call took from a source, and the bytes that a sink took.
-use Rattle.std.specs.Prelude.{◌≡◌, ◌<◌, ◌≤◌, ℕ, List, length, take, Option, ◌+◌, ◌-◌, ◌^◌, min, Result, OnErr, OnOk}
+use Rattle.std.specs.Prelude.{◌≡◌, ◌<◌, ◌≤◌, ℕ, List, length, take, Option, ◌+◌, ◌-◌, ◌^◌, min}
 use Rattle.std.specs.Io.KnownBytes.{Consumes, Appends}
 
 -- exactly n bytes were taken from the front of the source's known bytes
@@ -21,13 +21,3 @@ next n = min (n + 1) (2 ^ 64 - 1)
 -- a count of faults rose: it is greater than before, or it is 2^64 - 1, at which it stays
 abbrev pub Rose : ℕ → ℕ → Type 0
 Rose before now = next before ≤ now
-
--- the count of faults doesn't fall, and an error is returned only if this count rose
-pub record HasCause {T E : Type 0} (before now : ℕ) (result : Result T E) : Type 0 where
-  pub later : before ≤ now
-  pub failed : OnErr result (Rose before now)
-
--- the count of faults rises to the next count for an error, and stays without an error
-pub record CountsErr {T E : Type 0} (before now : ℕ) (result : Result T E) : Type 0 where
-  pub ok : OnOk result (now ≡ before)
-  pub err : OnErr result (now ≡ next before)

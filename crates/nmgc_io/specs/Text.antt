@@ -26,11 +26,6 @@ is_blank_or_comment (b ∷ bytes) = b == 35
 abbrev pub spaced : List (List ℕ) → List ℕ
 spaced tokens = join_with_byte 32 tokens
 
--- tokens, each behind a space
-abbrev pub after_spaces : List (List ℕ) → List ℕ
-after_spaces [] = []
-after_spaces (token ∷ tokens) = 32 ∷ (token ++ after_spaces tokens)
-
 -- the lines, each with a line feed at its end
 abbrev pub ended : List (List ℕ) → List ℕ
 ended lines = flat_map (λ line. line ++ 10 ∷ []) lines

@@ -5,7 +5,7 @@
 //! and count it. Easy to get wrong: a call may take only a front of the piece, and the caller has to offer the rest again.
 ghost use Rattle.std.specs.Prelude.{ℕ, List, Option, ◌<◌, ◌≤◌, length, IfOk};
 ghost use Rattle.std.specs.Io.KnownBytes.{WriteAppends};
-ghost use Rattle.nmgc_io.specs.Counts.{HasCause};
+ghost use Rattle.nmgc_io.specs.Streams.{HasCause};
 
 use crate::Failed;
 

@@ -5,7 +5,7 @@
 //! can report 'the source failed' by itself: it has to show that the count rose. The count has 64 bits, and at its greatest
 //! value it counts as risen. Easy to get wrong: a short read isn't the end. Only a read of no bytes is the end.
 ghost use Rattle.std.specs.{Prelude.ℕ, Prelude.List, Prelude.Option, Prelude.◌<◌, Prelude.length, Io.ReadsAtMost, Io.KnownBytes.ReadConsumes};
-ghost use Rattle.nmgc_io.specs.Counts.{HasCause};
+ghost use Rattle.nmgc_io.specs.Streams.{HasCause};
 
 use crate::Failed;
 

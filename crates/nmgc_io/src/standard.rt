@@ -7,7 +7,7 @@
 //! that the real streams keep the contracts of `Read` and `Write`. Easy to get wrong: a write that takes nothing is no error
 //! to the system, but a loop over it would never end. Here it counts as a fault.
 ghost use Rattle.std.specs.{Prelude.◌≡◌, Prelude.◌<◌, Prelude.◌≤◌, Prelude.length, Prelude.IfOk, Io.ReadsAtMost, Io.KnownBytes.ReadConsumes, Io.KnownBytes.WriteAppends};
-ghost use Rattle.nmgc_io.specs.Counts.{HasCause, CountsErr};
+ghost use Rattle.nmgc_io.specs.Streams.{HasCause, CountsErr};
 
 use crate::{Failed, Sink, Source};
 use std::io::{Read, Stdin, Stdout, Write};

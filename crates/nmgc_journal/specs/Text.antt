@@ -35,11 +35,6 @@ reply_text Nothing = codes "none"
 reply_text StackFull = codes "stackfull"
 reply_text StackEmpty = codes "stackempty"
 
--- the reply has a token of its own, and gives no value
-abbrev pub HasWord : Reply → Type 0
-HasWord (Given v) = ⊥
-HasWord _ = Unit {0}
-
 -- the line of a mutator's reply: the mutator, a space and the reply
 abbrev pub reply_line : ℕ → Reply → List ℕ
 reply_line m reply = decimal m ++ 32 ∷ reply_text reply ++ 10 ∷ []
@@ -59,14 +54,10 @@ phase_text Idle = codes " idle"
 phase_text Marking = codes " marking"
 phase_text Sweeping = codes " sweeping"
 
--- the four counts that end a stop's line
-abbrev pub stop_counts : StopRow → List ℕ
-stop_counts s = codes " free " ++ decimal s.free ++ codes " filled " ++ decimal s.filled ++ codes " sweep " ++ decimal s.sweep ++
-    codes " promoted " ++ decimal s.promoted ++ 10 ∷ []
-
 -- the line of a stop
 abbrev pub stop_line : StopRow → List ℕ
-stop_line s = codes "stop " ++ decimal s.number ++ phase_text s.phase ++ stop_counts s
+stop_line s = codes "stop " ++ decimal s.number ++ phase_text s.phase ++ codes " free " ++ decimal s.free ++ codes " filled " ++ decimal s.filled ++
+    codes " sweep " ++ decimal s.sweep ++ codes " promoted " ++ decimal s.promoted ++ 10 ∷ []
 
 -- the start of a cycle's line: its number, and the stops of its snapshot and its closing
 abbrev pub cycle_stops : CycleRow → List ℕ
@@ -105,18 +96,10 @@ abbrev pub rounds_text : List StopRow → List CycleRow → ℕ → List RoundRo
 rounds_text stops cycles n [] = []
 rounds_text stops cycles n (rows ∷ others) = round_text n rows ++ stop_at stops cycles n ++ rounds_text stops cycles (n + 1) others
 
--- the two counts that end the last line of a run whose heap was full: the free segments, which were too few, and the reserve
-abbrev pub end_counts : ℕ → ℕ → List ℕ
-end_counts free reserve = codes " free " ++ decimal free ++ codes " reserve " ++ decimal reserve ++ 10 ∷ []
-
--- the last line of a run whose heap was full
-abbrev pub heap_full_line : ℕ → ℕ → List ℕ
-heap_full_line free reserve = codes "end heapfull" ++ end_counts free reserve
-
--- the last line of a report
+-- the last line of a report; if the heap was full, with the free segments, which were too few, and the reserve
 abbrev pub end_text : End → List ℕ
 end_text Done = codes "end done\n"
-end_text (HeapFull free reserve) = heap_full_line free reserve
+end_text (HeapFull free reserve) = codes "end heapfull" ++ codes " free " ++ decimal free ++ codes " reserve " ++ decimal reserve ++ 10 ∷ []
 
 -- the text of a report: its lines, as a function of the report
 abbrev pub report_text : Report → List ℕ

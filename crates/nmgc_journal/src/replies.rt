@@ -9,7 +9,7 @@
 //! a list of replies may have one, and is then kept unpacked as a whole.
 ghost use Rattle.std.specs.Prelude.{◌≡◌, ◌<◌, IfOk, IfSome, length, slice_get, slice_index_or, Some};
 ghost use Rattle.nmgc_world_spec.specs.{declared.command.Reply.TheVariants.Fine, declared.command.Reply.TheVariants.Given, declared.value.Value.TheVariants.Number, declared.value.Value.TheVariants.Ref};
-ghost use Rattle.nmgc_journal.specs.{Text.HasWord, Replies.name_in, Replies.plain_replies, Replies.reply_in};
+ghost use Rattle.nmgc_journal.specs.{Reading.HasWord, Replies.name_in, Replies.plain_replies, Replies.reply_in};
 
 use nmgc_lists::NoMemory;
 use nmgc_world_spec::{Name, Reply, Value};

@@ -6,7 +6,7 @@
 //! get wrong: a stop without a row has to take its cycles too. Otherwise the next stop begins at cycles that ended before.
 ghost use Rattle.std.specs.Prelude.{◌≡◌, ◌≢◌, ◌↔◌, ℕ, ◌+◌, ◌<◌, ◌≤◌, ◌++◌, ◌==◌, length, take, drop, IsTrue, OnOk, IfOk};
 ghost use Rattle.std.specs.List.{flat_map, take_while};
-ghost use Rattle.nmgc_journal.specs.Text.{phase_text, stop_line, stop_counts, cycle_line, cycle_stops, cycle_swept, cycle_kept, cycle_text, name_line, stop_at, ended_at};
+ghost use Rattle.nmgc_journal.specs.{Text.phase_text, Text.stop_line, Printing.stop_counts, Text.cycle_line, Text.cycle_stops, Text.cycle_swept, Text.cycle_kept, Text.cycle_text, Text.name_line, Text.stop_at, Text.ended_at};
 ghost use Rattle.nmgc_journal.specs.{Stops.AreEndedFrom, Stops.IsRestAfter, Spans.span_lines};
 
 use crate::tokens::{push_count, push_name, push_word};

@@ -3,6 +3,7 @@ pub mod FixedVec
 pub mod Items
 pub mod ItemsLends
 pub mod Lends
+pub mod Length
 pub mod PlacedLends
 pub mod Room
 pub mod RoomLends

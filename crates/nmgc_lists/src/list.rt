@@ -8,7 +8,7 @@
 //! Easy to get wrong: a list made by `new` or `pair` has no vector, even after an item was taken off. So the next `push` onto
 //! it takes memory, even if the value itself would have room.
 ghost use Rattle.std.specs.Prelude.{◌≡◌, ◌≤◌, [], ◌∷◌, ◌++◌, IfSome, IfNone, IfOk, OnOk, OnErr, vec_capacity};
-ghost use Rattle.nmgc_lists.specs.Items.{items_of, HasExactLength};
+ghost use Rattle.nmgc_lists.specs.{Items.items_of, Length.HasExactLength};
 
 use crate::NoMemory;
 use crate::fixed_vec::FixedVec;
@@ -46,7 +46,7 @@ impl<T: Drop> Drop for List<T> {
 
 impl<T> Model for List<T> {
     ghost use Rattle.std.specs.Prelude.{List};
-    ghost use Rattle.nmgc_lists.specs.Items.{items_of, HasExactLength};
+    ghost use Rattle.nmgc_lists.specs.{Items.items_of, Length.HasExactLength};
 
     ghost Value = { List T };
 

@@ -4,7 +4,7 @@ pub use Rattle.nmgc_heap_spec.specs.{Places.ListMeans, Places.Means, Places.Plac
 pub use Rattle.nmgc_limits.specs.declared.mutators.TheConstants.{SHARED_SLOTS}
 pub use Rattle.nmgc_lists.specs.laws.{Items.contains_cases, Items.contains_flat, Items.contains_head, Items.contains_map, Items.contains_tail, Truths.never, Truths.or_second as or_true}
 pub use Rattle.nmgc_mark.specs.{Beginning.IsBeginning, Beginning.IsPrepared, Beginning.most_blocks, Beginning.queue_words, Beginning.slots_of, Marker.HasMarked, Marker.HasRoomToMark, Marker.HasScanned, Marker.MarksAt, Marker.StandAsBefore, Marker.blank, Marker.noted, Marker.places, Marker.turned, Seen.MarkerSeen, Stopped.AreScans, Stopped.HasFinished, Stopped.IsAlone, Stopped.IsReady, Stopped.WordsShow, Tie.AreApart, Tie.AreQueued, Tie.IsRightSnapshot, Tie.IsTied, Tie.with_places, Tie.with_queues, Tie.with_words, Work.HasWorked, Work.IsAtField, Work.IsCollector, Work.IsLaterSeat, Work.IsScanning, Work.SeatShows, Work.entry_now, Work.fields_scanned, Work.has_results, Work.is_result, Work.marks_seen, Work.rest_of, Work.with_first, laws.Common.marked_none, laws.Common.marked_then, laws.Common.places_apart as apart_of, laws.Common.tied_unset}
-pub use Rattle.nmgc_object.specs.{FinQueue.FinQueue, Places.IsLayout, Places.word_total, Size.block_size, Words.IsHeader, Words.header_word, declared.layout.Layout.Layout, declared.size.TheConstants.HEADER_WORDS, declared.words.Address.Address, declared.words.Header.Header, laws.Classes.least_block}
+pub use Rattle.nmgc_object.specs.{FinQueue.FinQueue, Layouts.IsLayout, Places.word_total, Size.block_size, Words.IsHeader, Words.header_word, declared.layout.Layout.Layout, declared.size.TheConstants.HEADER_WORDS, declared.words.Address.Address, declared.words.Header.Header, laws.Classes.least_block}
 pub use Rattle.nmgc_round.specs.{Added.AddsScan, Events.Happening, Events.did, Events.replay, Events.scanned, Gate.next_turn, Gate.passed, Marking.Marks, Marking.after_word, Marking.entry_past, Marking.first_past, Marking.is_last_word, Marking.is_thunk, Marking.marks_after, Marking.marks_of, Marking.name_at, Marking.name_meant, Marking.name_read, Marking.offset_of, Marking.with_name, Objects.IsIn, Objects.Object, Objects.place_of, Ready.CanScan, Ready.first_of, Ready.scanned_by, Rule.AllRead, Rule.IsRead, Rule.Keeps, Rule.now, Seat.IsAt, Seat.Knows, Seat.RoundSeat, Seat.seen, Seat.word_count, Starting.CanOpen, Known.IsSafe, Known.FindsEntry, Known.FindsNode, Known.FindsScan, View.Opening, View.Scan, View.Seen, View.whole}
 pub use Rattle.nmgc_round.specs.{declared.table.Round.Round, laws.Common.folded_more, laws.Common.found_at, laws.Common.passed_more, laws.Common.some_at}
 pub use Rattle.nmgc_segment.specs.{Marks.IsEpoch, Segment.InUse, declared.state.State.TheVariants.Free}

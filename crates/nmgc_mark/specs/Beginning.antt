@@ -1,7 +1,7 @@
 -- The beginning of marking: nothing is marked yet, and the roots are the snapshot's.
 use Rattle.std.specs.Prelude.{ℕ, ◌*◌, ◌+◌, ◌/◌, List, map, take, drop, Contains, ◌≡◌, ◌↔◌}
 use Rattle.std.specs.List.{flat_map}
-use Rattle.nmgc_world_spec.specs.{declared.mutator_state.MutatorState.MutatorState, World.World, World.IsWorld, Reach.strong_fields}
+use Rattle.nmgc_world_spec.specs.{declared.mutator_state.MutatorState.MutatorState, World.World, Known.IsWorld, Reach.strong_fields}
 use Rattle.nmgc_limits.specs.declared.mutators.TheConstants.{SHARED_SLOTS}
 use Rattle.nmgc_object.specs.{FinQueue.FinQueue, declared.layout.Layout.Layout, declared.layout.TheConstants.SHARED_PLACE, declared.size.TheConstants.HEADER_WORDS, declared.size.TheConstants.MIN_BLOCK_WORDS}
 use Rattle.nmgc_alloc.specs.{Numbered.Segments, Segments.IsSegments, AllocState.AllocState, Stands.StandsFor, Blocks.IsMarkedAt, Blocks.IsSnapshotAt, Blocks.IsUsedAt}

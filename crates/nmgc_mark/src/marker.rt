@@ -8,7 +8,7 @@ ghost use Rattle.std.specs.Prelude.{ℕ, ◌≡◌, ◌+◌, ◌-◌, ◌*◌, �
 ghost use Rattle.std.specs.List.{flat_map};
 ghost use Rattle.nmgc_segment.specs.Marks.{IsEpoch};
 ghost use Rattle.nmgc_alloc.specs.Segments.{IsBlockAt};
-ghost use Rattle.nmgc_object.specs.{declared.layout.TheConstants.FIRST_PLACE, Places.IsLayout};
+ghost use Rattle.nmgc_object.specs.{declared.layout.TheConstants.FIRST_PLACE, Layouts.IsLayout};
 ghost use Rattle.nmgc_snapshot_laws.specs.State.{opening};
 ghost use Rattle.nmgc_round.specs.{View.Opening, Marking.Marks, Marking.marks_of, Marking.with_name, Marking.name_at, Marking.name_meant, Seat.IsAt, Seat.Knows, Seat.seen};
 ghost use Rattle.nmgc_mark.specs.{Marker.HasRoomToMark, Marker.MarksAt, Marker.HasMarked, Marker.places, Marker.blank, Beginning.IsBeginning, Beginning.slots_of, Beginning.queue_words, Beginning.most_blocks, Tie.IsTied, Tie.with_places, Tie.with_words, Tie.with_queues};

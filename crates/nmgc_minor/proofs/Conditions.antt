@@ -1,7 +1,7 @@
 -- The world has all that the passes require of the words.
 use Rattle.std.proofs.{Common.◌≡◌, Common.◌<◌, Common.◌≤◌, Common.◌+◌, Common.◌-◌, Common.◌*◌, Common.ℕ, Common.List, Common.length, Common.inl, Common.inr, Common.sym, Common.ap, Common.subst, Common.◌∙◌, Common.arith, Common.Some, Math.Nat.mul-le-mul_right, lemmas.Bool.cases_order}
 use Rattle.std.specs.Prelude.{Contains}
-use Rattle.nmgc_world_spec.specs.{declared.value.Name.Name, declared.node.Node.Node, World.World, World.node_of, World.IsWorld}
+use Rattle.nmgc_world_spec.specs.{declared.value.Name.Name, declared.node.Node.Node, World.World, World.node_of, Known.IsWorld}
 use Rattle.nmgc_object.specs.{Words.header_word, Words.IsHeader, Places.InNursery, Places.nursery_place, declared.words.Header.Header, declared.layout.Layout.Layout, declared.size.TheConstants.HEADER_WORDS}
 use Rattle.nmgc_heap_spec.specs.{Shape.header_of, Shape.size_of, Tracked.IsTracked, Places.Place, Places.LiesInNursery, Represents.Represents, Represents.NoNode, Moves.StillSpoken}
 use Rattle.nmgc_stop_spec.specs.{Strong.HasStrong, Strong.HasHeader, laws.Fields.stands, laws.Fields.field_in}

@@ -40,7 +40,7 @@ impl Model for Promotion {
 }
 
 impl Promotion {
-    ghost use Rattle.nmgc_object.specs.Places.{IsLayout};
+    ghost use Rattle.nmgc_object.specs.Layouts.{IsLayout};
     ghost use Rattle.nmgc_minor.specs.Promotion.{IsFor};
 
     /// Makes the working lists of promotion, with all the memory that promotions in this layout need.

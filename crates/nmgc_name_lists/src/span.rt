@@ -19,7 +19,7 @@ pub struct Span {
 const _: () = prove!(size_of::<Span>() == 8);
 
 impl Span {
-    ghost use Rattle.nmgc_name_lists.specs.Spans.{names_of, IsNext};
+    ghost use Rattle.nmgc_name_lists.specs.{Spans.names_of, Order.IsNext};
 
     /// Makes the span of one name.
     #[inline]

@@ -1,4 +1,6 @@
+pub mod Fields
 pub mod FinQueue
+pub mod Layouts
 pub mod Places
 pub mod Size
 pub mod Words

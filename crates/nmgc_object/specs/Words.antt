@@ -1,9 +1,9 @@
--- Headers, names and fields, and the word of each.
+-- Headers and names, and the word of each.
 use Rattle.std.specs.Prelude.{ℕ, ◌≡◌, ◌+◌, ◌*◌, ◌<◌, ◌≤◌, ◌^◌}
 use Rattle.nmgc_limits.specs.declared.mutators.TheConstants.{SHARED_MAKER}
 use Rattle.nmgc_world_spec.specs.{declared.value.Name.Name, declared.node.Kind.Kind, declared.node.Kind.TheVariants.Con, declared.node.Kind.TheVariants.Var, declared.node.Kind.TheVariants.Arr, declared.node.Kind.TheVariants.Thunk, declared.node.Kind.TheVariants.Weak, declared.node.Kind.TheVariants.Stack}
-use Rattle.nmgc_object.specs.declared.words.TheConstants.{TAGS, MAX_FIELDS, MAX_THUNK_FIELDS, VAR_FIELDS, WEAK_FIELDS, NUMBER_LIMIT, TAG_UNIT, FIELDS_UNIT, SERIAL_UNIT, NIL_WORD, ZERO_WORD}
-use Rattle.nmgc_object.specs.{declared.words.Header.Header, declared.words.Field.Field, declared.words.Field.TheVariants.Unset, declared.words.Field.TheVariants.Nil, declared.words.Field.TheVariants.Number, declared.words.Field.TheVariants.Pointer}
+use Rattle.nmgc_object.specs.declared.words.TheConstants.{TAGS, MAX_FIELDS, MAX_THUNK_FIELDS, VAR_FIELDS, WEAK_FIELDS, TAG_UNIT, FIELDS_UNIT, SERIAL_UNIT}
+use Rattle.nmgc_object.specs.declared.words.Header.{Header}
 
 -- the number of a kind in a header word
 abbrev pub kind_number : Kind → ℕ
@@ -47,17 +47,3 @@ IsName name = (name.maker ≤ SHARED_MAKER) × (name.serial < 2 ^ 32) × (name.m
 -- the word of a name
 abbrev pub name_word : Name → ℕ
 name_word name = SERIAL_UNIT * name.serial + name.maker
-
--- a valid field: nothing, nil, a number below `NUMBER_LIMIT`, or a pointer to an address from 1 up to 32 bits
-abbrev pub IsField : Field → Type 0
-IsField Unset = Unit {0}
-IsField Nil = Unit {0}
-IsField (Number n) = n < NUMBER_LIMIT
-IsField (Pointer at) = (1 ≤ at.0) × (at.0 < 2 ^ 32)
-
--- the word of a field
-abbrev pub field_word : Field → ℕ
-field_word Unset = 0
-field_word Nil = NIL_WORD
-field_word (Number n) = 2 * n + ZERO_WORD
-field_word (Pointer at) = 2 * at.0

@@ -10,7 +10,7 @@
 //! constructors have tags, and the number of fields depends on the kind, so decoding tests them together.
 ghost use Rattle.std.specs.Prelude.{◌≡◌, ◌≢◌, ◌↔◌, ◌+◌, ◌*◌, ◌%◌, ◌<◌, ◌≤◌, IfSome, IfNone, IsTrue};
 ghost use Rattle.nmgc_world_spec.specs.{declared.value.Name.Name, declared.node.Kind.Kind};
-ghost use Rattle.nmgc_object.specs.{Words.kind_number, Words.header_word, Words.name_word, Words.field_word, Words.IsHeader, Words.IsName, Words.IsField, declared.words.TheConstants.NUMBER_LIMIT, declared.words.TheConstants.NIL_WORD, declared.words.TheConstants.ZERO_WORD, declared.words.Header.Header, declared.words.Field.Field};
+ghost use Rattle.nmgc_object.specs.{Words.kind_number, Words.header_word, Words.name_word, Fields.field_word, Words.IsHeader, Words.IsName, Fields.IsField, declared.words.TheConstants.NUMBER_LIMIT, declared.words.TheConstants.NIL_WORD, declared.words.TheConstants.ZERO_WORD, declared.words.Header.Header, declared.words.Field.Field};
 
 use nmgc_limits::SHARED_MAKER;
 use nmgc_world_spec::{Kind, Name};

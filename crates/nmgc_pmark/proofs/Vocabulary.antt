@@ -16,7 +16,7 @@ pub use Rattle.nmgc_run_laws.specs.laws.Places.{block_used, blocks_at_stop}
 pub use Rattle.nmgc_run_spec.specs.Heap.{HoldsAtStop, queues_of, registers_of, snapshots}
 pub use Rattle.nmgc_snapshot_laws.specs.{Facts.Facts, Machine.advanced, Machine.after_scan, Scan.field_at, Scan.read_at, State.State, State.mark_name, State.mark_read, State.mark_values, State.names_of, State.opening, State.root_values, State.unmarked, declared.event.Entry.Entry, laws.Lives.refers, laws.Marking.mark_cases, laws.Openings.no_names as none_of, laws.Openings.opening_facts, laws.ScanReads.read_cases, laws.Scans.scan_facts}
 pub use Rattle.nmgc_world_laws.specs.Holds.{has_result}
-pub use Rattle.nmgc_world_spec.specs.{Reach.IsBefore, Reach.IsInOrder, Reach.IsReached, Reach.IsRoot, Reach.Lists, Reach.RefersTo, Reach.strong_fields, Step.shared_name, World.IsKnown, World.IsNodeOf, World.IsWorld, World.World, World.held_by, World.no_mutator, World.node_of, World.state_of, declared.mutator_state.MutatorState.MutatorState, declared.node.Node.Node, declared.node.Node.TheVariants.Arr, declared.node.Node.TheVariants.Con, declared.node.Node.TheVariants.Stack, declared.node.Node.TheVariants.Thunk, declared.node.Node.TheVariants.Var, declared.node.Node.TheVariants.Weak, declared.value.Name.Name, declared.value.Value.Value, laws.Orders.name_cases, laws.Orders.not_before_itself as never_before, laws.Orders.same_name}
+pub use Rattle.nmgc_world_spec.specs.{Reach.IsBefore, Reach.IsInOrder, Reach.IsReached, Reach.IsRoot, Reach.Lists, Reach.RefersTo, Reach.strong_fields, Step.shared_name, Known.IsKnown, Known.IsNodeOf, Known.IsWorld, World.World, World.held_by, World.no_mutator, World.node_of, World.state_of, declared.mutator_state.MutatorState.MutatorState, declared.node.Node.Node, declared.node.Node.TheVariants.Arr, declared.node.Node.TheVariants.Con, declared.node.Node.TheVariants.Stack, declared.node.Node.TheVariants.Thunk, declared.node.Node.TheVariants.Var, declared.node.Node.TheVariants.Weak, declared.value.Name.Name, declared.value.Value.Value, laws.Orders.name_cases, laws.Orders.not_before_itself as never_before, laws.Orders.same_name}
 pub use Rattle.std.proofs.{Common.Bool, Common.List, Common.None, Common.Ok, Common.Option, Common.Result, Common.Some, Common.[], Common.ap, Common.append-nil, Common.append_assoc, Common.arith, Common.cond, Common.drop, Common.eq-eqb, Common.eqb, Common.false, Common.get_or, Common.get_or-drop, Common.inl, Common.inr, Common.length, Common.length-append, Common.length-drop, Common.length-set, Common.length-take-le, Common.map, Common.ne_eqb, Common.refl, Common.replicate, Common.rules, Common.set, Common.subst, Common.suc, Common.sym, Common.take, Common.true, Common.true≢false, Common.vec_capacity, Common.vec_len, Common.zero, Common.ℕ, Common.⊎_elim, Common.◌%◌, Common.◌*◌, Common.◌++◌, Common.◌+◌, Common.◌-◌, Common.◌<◌, Common.◌↔◌, Common.◌∙◌, Common.◌∷◌, Common.◌≡◌, Common.◌≢◌, Common.◌≤◌, Common.◌⊎◌, Math.Nat.mod-lt, Math.Seq.take-append_seam, Math.Seq.take-suc}
 pub use Rattle.std.proofs.lemmas.{Bool.cases_eq, Bool.cases_lt, Cmp.ranked, List.get_or-set_other, List.get_or-set_same, List.get_or-take, List.get_or_default, List.get_or_past, List.length-map, List.length-replicate, List.Edits.Swapped, List.Edits.length-swap, List.Edits.swapped_from_swap, List.Elements.All-contains, List.Elements.Contains-append_cases, List.Elements.Contains-append_left, List.Elements.Contains-append_right, List.Elements.Contains-get_or, List.Elements.Contains-push, List.Elements.Contains-push_cases, List.Sorted.Contains-permutation, List.Sorted.IsPermutation-keeps, List.Sorted.IsPermutation-sym, List.Sorted.IsPermutation-trans, List.Sorted.answers_always, Option.get_or_from_slice_get, Option.slice_get-get_or, Option.slice_get_within, Result.IfOk-weaker, Slice.Zip.AllZip-long, Slice.Zip.all_zipped_more}
 pub use Rattle.std.specs.{List.AllZip, List.flat_map, List.swap, List.Sorted.IsPermutation, Ordering.is_lt, Ordering.nat_cmp, Ordering.ordering_then, Prelude.Contains, Prelude.Err, Prelude.IfOk, Prelude.IsSome, Prelude.OnOk, Prelude.is_err, Prelude.slice_get, Prelude.slice_index, Prelude.slice_index_or, Vec.Iter.into_iter_items, declared.cmp.Ordering.Ordering, declared.cmp.Ordering.TheVariants.Equal, declared.cmp.Ordering.TheVariants.Greater, declared.cmp.Ordering.TheVariants.Less}

@@ -1,6 +1,6 @@
 -- The heap at a stop of a run, as markers find it.
 use Rattle.std.specs.{Prelude.ℕ, Prelude.◌≡◌, Prelude.List, Prelude.◌++◌, List.flat_map}
-use Rattle.nmgc_world_spec.specs.World.{IsWorld}
+use Rattle.nmgc_world_spec.specs.Known.{IsWorld}
 use Rattle.nmgc_object.specs.declared.layout.Layout.{Layout}
 use Rattle.nmgc_alloc.specs.{Numbered.Segments, Segments.IsSegments}
 use Rattle.nmgc_heap_spec.specs.Places.{Place}

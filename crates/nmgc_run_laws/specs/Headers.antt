@@ -1,8 +1,8 @@
 -- No command changes the header of an object.
 use Rattle.std.specs.Prelude.{List}
-use Rattle.nmgc_world_spec.specs.{World.World, World.IsWorld, History.Row, History.replayed}
+use Rattle.nmgc_world_spec.specs.{World.World, Known.IsWorld, History.Row, History.replayed}
 use Rattle.nmgc_world_laws.specs.Reachable.{CanReplay}
-use Rattle.nmgc_heap_spec.specs.Represents.{IsEarlier}
+use Rattle.nmgc_heap_spec.specs.Changes.{IsEarlier}
 
 -- the law that no command changes the header of an object
 abbrev pub RowsKeepHeaders : Type 0

@@ -1,12 +1,12 @@
 -- Laws of runs, as statements. The functions of `laws` prove them.
 use Rattle.std.specs.Prelude.{ℕ, ◌≡◌, ◌≤◌, ◌↔◌, ◌+◌, ◌-◌, ◌*◌, ◌/◌, ◌^◌, List, [], ◌∷◌, ◌++◌, length, drop, slice_index_or, count_by, All, Some}
-use Rattle.nmgc_object.specs.{Places.IsLayout, Places.class_count, declared.layout.Layout.Layout, declared.size.TheConstants.DENSE_CLASS, declared.size.TheConstants.DENSE_WORDS}
+use Rattle.nmgc_object.specs.{Layouts.IsLayout, Places.class_count, declared.layout.Layout.Layout, declared.size.TheConstants.DENSE_CLASS, declared.size.TheConstants.DENSE_WORDS}
 use Rattle.nmgc_segment.specs.declared.state.State.TheVariants as stands
 use Rattle.nmgc_segment.specs.Segment.{Segment}
 use Rattle.nmgc_alloc.specs.Numbered.{is}
 use Rattle.nmgc_journal.specs.{declared.report.RoundRows.RoundRows, declared.report.Report.Report, declared.report.StopRow.StopRow, declared.report.CycleRow.CycleRow, declared.report.End.End}
 use Rattle.nmgc_script.specs.{Limits.FitsScript, Limits.upgraded, Limits.HasFewCommands, declared.script.Script.Script}
-use Rattle.nmgc_run_spec.specs.{Slice.program_of, State.Plan, Stop.answer_of, Lawful.IsLawful, Lawful.IsLawfulFor, Crowded.IsRunOf, Run.Run, Run.Turn, Run.IsRun, Run.IsTurn, Run.AreRowsOf, Run.last_state, Run.with_turn}
+use Rattle.nmgc_run_spec.specs.{AfterRound.program_of, State.Plan, Stop.answer_of, Lawful.IsLawful, Lawful.IsLawfulFor, Crowded.IsRunOf, Run.Run, Run.Turn, Run.IsRun, Run.IsTurn, Run.AreRowsOf, Run.last_state, AfterRound.with_turn}
 
 -- the law that a layout has the classes of dense blocks, and one for each doubling from `DENSE_WORDS` to a segment's words
 abbrev pub ClassesAreCounted : Type 0

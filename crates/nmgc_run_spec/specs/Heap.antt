@@ -1,11 +1,11 @@
--- The real heap at a stop and after a round: words, segments, roots and weak pointers that represent a state of a run.
-use Rattle.std.specs.Prelude.{ℕ, ◌≡◌, ◌⊎◌, ◌↔◌, ◌≤◌, List, [], ◌∷◌, length, map, flat_map, Some, Contains, All}
+-- The real heap at a stop: words, segments, roots and weak pointers that represent a state of a run.
+use Rattle.std.specs.Prelude.{ℕ, ◌≡◌, ◌↔◌, ◌≤◌, List, [], ◌∷◌, length, map, flat_map, Some, Contains, All}
 use Rattle.nmgc_limits.specs.declared.mutators.TheConstants.{REGISTERS}
 use Rattle.nmgc_world_spec.specs.{declared.value.Name.Name, declared.node.Node.Node, World.World, World.node_of}
-use Rattle.nmgc_object.specs.{Size.block_size, Places.InNursery, declared.layout.Layout.Layout}
+use Rattle.nmgc_object.specs.{Size.block_size, declared.layout.Layout.Layout}
 use Rattle.nmgc_alloc.specs.{Numbered.Segments, AllocState.AllocState, AllocState.LiesIn, AllocState.cells, Stands.StandsFor}
 use Rattle.nmgc_heap_spec.specs.{Shape.size_of, Places.Place, Represents.Represents, Represents.NoNode, Roots.RepresentsRoots, Roots.ListsWeaks}
-use Rattle.nmgc_stop_spec.specs.{Promoted.IsYoung, Placed.IsPlaceAtStop}
+use Rattle.nmgc_stop_spec.specs.Placed.{IsPlaceAtStop}
 use Rattle.nmgc_journal.specs.declared.report.MutatorEnd.{MutatorEnd}
 use Rattle.nmgc_run_spec.specs.State.{State, Progress, marking}
 
@@ -51,23 +51,4 @@ pub record HoldsAtStop (layout : Layout) (s : State) (words : List ℕ) (segment
   pub places : List Place
   pub all : (p : Place) → Contains places p ↔ IsPlaceAtStop layout s.allocation p
   pub holds : HeapStandsFor layout (snapshots s.progress) places s.world s.allocation words segments mutators
-  pub listed : ListsWeaks layout places s.world weaks
-
--- the place of an object that the round made in its maker's nursery
-pub record IsBornPlace (layout : Layout) (began w : World) (p : Place) : Type 0 where
-  pub young : IsYoung began w p.name
-  pub nursery : InNursery layout p.name.maker p.at
-
--- a place after a round: the place of g, of a block, or of a new object
-abbrev pub IsPlaceAfterRound : Layout → State → State → Place → Type 0
-IsPlaceAfterRound layout s t p = IsPlaceAtStop layout t.allocation p ⊎ IsBornPlace layout s.world t.world p
-
--- the heap after a round: the places at a stop, and a place in a nursery for each new object. The collector still uses the
--- world as the round began, and weak pointers are listed for that world, as at the stop before
-pub record HoldsAfterRound (layout : Layout) (s t : State) (places : List Place) (words : List ℕ) (segments : Segments) (mutators : List MutatorEnd)
-    (weaks : List Place) : Type 0 where
-  pub sound : (p : Place) → Contains places p → IsPlaceAfterRound layout s t p
-  pub old : (p : Place) → IsPlaceAtStop layout t.allocation p → Contains places p
-  pub born : (name : Name) → IsYoung s.world t.world name → (at : ℕ) × Contains places (record { at = at; name = name })
-  pub holds : HeapStandsFor layout (s.world ∷ snapshots t.progress) places t.world t.allocation words segments mutators
   pub listed : ListsWeaks layout places s.world weaks

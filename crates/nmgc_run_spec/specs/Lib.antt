@@ -1,3 +1,4 @@
+pub mod AfterRound
 pub mod Closing
 pub mod Crowded
 pub mod Heap

@@ -23,7 +23,7 @@ pub record IsHistory (w : World) (commands : List (List Command)) (replies : Lis
 
 -- the progress after a round: a cycle that is marking takes note of the rows
 abbrev pub noted : Progress → List Row → Progress
-noted (marking c) rows = marking (record c { rows = c.rows ++ rows })
+noted (marking c) rows = marking (record c { rows = c.rows ++ rows; earlier = c.rows })
 noted progress rows = progress
 
 -- the sweep beside a round: a cycle that is sweeping sweeps `quota` of the waiting segments, or all if fewer wait

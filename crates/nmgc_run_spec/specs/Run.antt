@@ -54,7 +54,3 @@ pub record AreRowsOf (run : Run) (rounds : List RoundRows) (stops : List StopRow
   pub rounds_are : rounds ≡ map (λ (turn : Turn). turn.replies) run.turns
   pub stops_are : stops ≡ run.opening.row ∷ map (λ (turn : Turn). turn.stop.row) run.turns
   pub cycles_are : cycles ≡ run.opening.cycles ++ flat_map (λ (turn : Turn). turn.stop.cycles) run.turns
-
--- the run with a further round and its stop at the end
-abbrev pub with_turn : Run → Turn → Run
-with_turn run turn = record run { turns = run.turns ++ turn ∷ [] }

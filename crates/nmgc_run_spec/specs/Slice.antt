@@ -1,5 +1,5 @@
 -- The part of its program that a mutator does in one round.
-use Rattle.std.specs.Prelude.{ℕ, ◌-◌, List, [], ◌∷◌, length, map, drop, slice_index_or, Bool, true, false, ◌&&◌, nat_lt, nat_le, if◌then◌else◌}
+use Rattle.std.specs.Prelude.{ℕ, ◌-◌, List, [], ◌∷◌, length, map, drop, Bool, true, false, ◌&&◌, nat_lt, nat_le, if◌then◌else◌}
 use Rattle.std.specs.List.{list_any}
 use Rattle.nmgc_world_spec.specs.{declared.command.Command.Command, declared.command.Command.TheVariants.Yield, declared.command.Command.TheVariants.Collect, declared.command.Command.TheVariants.Full, Command.words_made}
 use Rattle.nmgc_script.specs.declared.script.Config.{Config}
@@ -39,10 +39,6 @@ slice_of config left = slice config.slice config.nursery left
 -- the commands of a program that are left after its slice
 abbrev pub rest_of : Config → List Command → List Command
 rest_of config left = drop (length (slice_of config left)) left
-
--- the program of mutator `m`
-abbrev pub program_of : List (List Command) → ℕ → List Command
-program_of programs m = slice_index_or programs m []
 
 -- the slices of all mutators
 abbrev pub slices : Config → List (List Command) → List (List Command)

@@ -80,7 +80,7 @@ start plan = record {
 
 -- the cycle that begins in this state
 abbrev pub next_cycle : State → Cycle
-next_cycle s = record { number = s.begun + 1; from = s.number; snapshot = s.world; heap = s.allocation; rows = [] }
+next_cycle s = record { number = s.begun + 1; from = s.number; snapshot = s.world; heap = s.allocation; rows = []; earlier = [] }
 
 -- the state after a cycle began: its world is the snapshot, and the filled segments wait to be swept
 abbrev pub cycle_started : State → State

@@ -1,6 +1,6 @@
 //! Images that are read, answers of the search, and the judge's verdict on other answers.
 ghost use Rattle.std.specs.Prelude.{◌^◌, IfOk};
-ghost use Rattle.nmgc_image.specs.Spelling.{IsSpelledWithin};
+ghost use Rattle.nmgc_image.specs.Results.{IsSpelledWithin};
 
 use nmgc_image::{Image, image_text, laws, read_image};
 use nmgc_lists::{List, NoMemory};

@@ -3,9 +3,8 @@ use Rattle.std.specs.Prelude.{◌≡◌, ◌≢◌, ◌<◌, ◌+◌, ℕ, List,
 use Rattle.std.specs.Str.{bytes_eq}
 use Rattle.nmgc_world_spec.specs.{declared.command.Command.Command, Command.HasRegistersBelow, Command.HasNumbers, Command.words_made}
 use Rattle.nmgc_io.specs.Text.{tokens_of, spaced}
-use Rattle.nmgc_script.specs.{declared.fault.Cause.Cause, declared.fault.ScriptFault.ScriptFault, declared.script.Config.Config, declared.verbs.Verb.Verb, declared.version.Version.Version, Limits.FitsConfig, Limits.IsVersion, Limits.total_words, Spelling.verb_name, Spelling.command_words, Spelling.heap_words, Spelling.section_words, Spelling.version_words, Text.kept_lines, Text.end_of}
+use Rattle.nmgc_script.specs.{declared.fault.Cause.Cause, declared.script.Config.Config, declared.verbs.Verb.Verb, declared.version.Version.Version, Limits.FitsConfig, Limits.IsVersion, Limits.total_words, Spelling.verb_name, Spelling.command_words, Spelling.heap_words, Spelling.section_words, Spelling.version_words}
 use Rattle.nmgc_script.specs.declared.fault.Cause.TheVariants as cause
-use Rattle.nmgc_script.specs.declared.fault.ScriptFault.TheVariants as script_fault
 
 -- the first token of a line, or the empty token if there is none
 abbrev pub first_of : List (List ℕ) → List ℕ
@@ -81,8 +80,3 @@ IsFaultOfText end [] number c = (number ≡ end) × (c ≡ cause.Version)
 IsFaultOfText end (line ∷ lines) number c =
     ((number ≡ line.0) × (c ≡ cause.Version) × ((v : Version) → IsVersion v → line.1 ≢ spaced (version_words v.number))) ⊎
     ((v : Version) × IsVersion v × (line.1 ≡ spaced (version_words v.number)) × IsFaultFromHeap v end lines number c)
-
--- the report for bytes that spell no script: the first bad line and its first cause
-abbrev pub IsFaultOf : List ℕ → ScriptFault → Type 0
-IsFaultOf bytes script_fault.NoMemory = Unit {0}
-IsFaultOf bytes (script_fault.Bad line c) = IsFaultOfText (end_of bytes) (kept_lines bytes) line c

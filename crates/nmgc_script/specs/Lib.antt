@@ -3,6 +3,7 @@ pub mod Faults
 pub mod Limits
 pub mod Printing
 pub mod Reading
+pub mod Results
 pub mod Spelling
 pub mod Text
 pub mod laws

@@ -1,7 +1,7 @@
 -- The limits of a script.
 use Rattle.std.specs.Prelude.{◌≡◌, ℕ, ◌+◌, ◌*◌, ◌≤◌, ◌⊎◌, List, [], ◌∷◌, length, All, codes, ◌==◌, if◌then◌else◌}
 use Rattle.std.specs.Str.{bytes_eq}
-use Rattle.nmgc_limits.specs.{Limits.IsSegmentSize, Limits.most_heap_words, Limits.most_nursery_words, Limits.most_quota, Limits.most_script_bytes, Limits.most_slice, Limits.most_trigger, declared.mutators.TheConstants.MAKERS, declared.mutators.TheConstants.REGISTERS}
+use Rattle.nmgc_limits.specs.{Limits.IsSegmentSize, Limits.most_heap_words, Limits.most_nursery_words, Limits.most_quota, Limits.most_script_bytes, Limits.most_segments, Limits.most_slice, Limits.most_trigger, declared.mutators.TheConstants.MAKERS, declared.mutators.TheConstants.REGISTERS}
 use Rattle.nmgc_world_spec.specs.{Command.Fits, Command.HasRegistersBelow, declared.command.Command.Command}
 use Rattle.nmgc_script.specs.{declared.script.Config.Config, declared.script.Script.Script, declared.version.Version.Version, Text.kept_lines}
 
@@ -11,13 +11,13 @@ use Rattle.nmgc_script.specs.{declared.script.Config.Config, declared.script.Scr
 -- 4,194,304 words (32 MiB) in versions 1 and 2, and 268,435,456 words (2 GiB) in version 3. A script has at most 16,777,216
 -- bytes in versions 1 and 2, and 67,108,864 bytes in version 3.
 abbrev pub version_1 : Version
-version_1 = record { number = 1; threads = 8; registers = 16; segments = 65536; heap_words = 4194304; bytes = 16777216 }
+version_1 = record { number = 1; threads = 8; registers = 16; segments = most_segments; heap_words = 4194304; bytes = 16777216 }
 
 abbrev pub version_2 : Version
-version_2 = record { number = 2; threads = MAKERS; registers = REGISTERS; segments = 65536; heap_words = 4194304; bytes = 16777216 }
+version_2 = record { number = 2; threads = MAKERS; registers = REGISTERS; segments = most_segments; heap_words = 4194304; bytes = 16777216 }
 
 abbrev pub version_3 : Version
-version_3 = record { number = 3; threads = MAKERS; registers = REGISTERS; segments = 65536; heap_words = most_heap_words; bytes = most_script_bytes }
+version_3 = record { number = 3; threads = MAKERS; registers = REGISTERS; segments = most_segments; heap_words = most_heap_words; bytes = most_script_bytes }
 
 -- the version can be read: it is version 1, 2 or 3
 abbrev pub IsVersion : Version → Type 0

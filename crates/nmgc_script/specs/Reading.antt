@@ -8,8 +8,8 @@ use Rattle.std.specs.{Int.is_power_of_two, Str.bytes_eq, Str.Parse.digits_value}
 use Rattle.nmgc_limits.specs.Limits.{most_nursery_words, most_quota, most_segment_words, least_segment_words, most_slice, most_trigger}
 use Rattle.nmgc_world_spec.specs.{declared.command.Operand.Operand, declared.command.Operand.TheVariants.Register, declared.command.Operand.TheVariants.Shared, declared.command.Command.Command, Command.words_made}
 use Rattle.nmgc_world_spec.specs.declared.command.Command.TheVariants.{Num, Nil, Mov, Con, Var, Arr, Thunk, Weak, Stack, Get, Set, Cas, Update, Force, Push, Pop, Deref, Finalise, NextFin, Show, Same, Yield, Collect, Full}
-use Rattle.nmgc_io.specs.Text.{tokens_of}
-use Rattle.nmgc_script.specs.{declared.fault.Cause.Cause, declared.fault.LineFault.LineFault, declared.fault.ScriptFault.ScriptFault, declared.script.Config.Config, declared.script.Script.Script, declared.verbs.Verb.Verb, declared.verbs.TheConstants.VERBS, declared.version.Version.Version, declared.sections.Entry.Entry, Limits.total_words, Limits.version_1, Limits.version_2, Spelling.verb_name, Limits.version_3}
+use Rattle.nmgc_io.specs.Text.{tokens_of, lines_of}
+use Rattle.nmgc_script.specs.{declared.fault.Cause.Cause, declared.fault.LineFault.LineFault, declared.fault.ScriptFault.ScriptFault, declared.script.Config.Config, declared.script.Script.Script, declared.verbs.Verb.Verb, declared.verbs.TheConstants.VERBS, declared.version.Version.Version, declared.sections.Entry.Entry, Limits.total_words, Limits.version_1, Limits.version_2, Spelling.verb_name, Limits.version_3, Text.kept_from}
 use Rattle.nmgc_script.specs.declared.fault.Cause.TheVariants as cause
 use Rattle.nmgc_script.specs.declared.fault.LineFault.TheVariants as fault
 use Rattle.nmgc_script.specs.declared.fault.ScriptFault.TheVariants as script_fault
@@ -311,3 +311,11 @@ placed n (Err (fault.Bad c)) = Err (script_fault.Bad n c)
 abbrev pub GivesAt : {X Y : Type 0} → (X → Y) → Result X ScriptFault → Result Y (ℕ × Cause) → Type 0
 GivesAt view (Ok x) read = read ≡ Ok (view x)
 GivesAt view (Err e) read = FailsAt e read
+
+-- the lines of the rest of a text that aren't passed over, each with its number; the rest begins with line n
+abbrev pub kept_after : ℕ → List ℕ → List (ℕ × List ℕ)
+kept_after n bytes = kept_from n (lines_of bytes)
+
+-- the number of the line after the last, for the rest of a text that begins with line n
+abbrev pub end_after : ℕ → List ℕ → ℕ
+end_after n bytes = n + length (lines_of bytes)

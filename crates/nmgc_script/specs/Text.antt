@@ -7,18 +7,10 @@ unfoldable pub kept_from : ℕ → List (List ℕ) → List (ℕ × List ℕ)
 kept_from n [] = []
 kept_from n (line ∷ lines) = if is_blank_or_comment line then kept_from (n + 1) lines else (n, line) ∷ kept_from (n + 1) lines
 
--- the lines of the rest of a text that aren't passed over, each with its number; the rest begins with line n
-abbrev pub kept_after : ℕ → List ℕ → List (ℕ × List ℕ)
-kept_after n bytes = kept_from n (lines_of bytes)
-
--- the number of the line after the last, for the rest of a text that begins with line n
-abbrev pub end_after : ℕ → List ℕ → ℕ
-end_after n bytes = n + length (lines_of bytes)
-
 -- the lines of a text that aren't passed over, each with its number from 1; a line that is passed over still counts
 abbrev pub kept_lines : List ℕ → List (ℕ × List ℕ)
-kept_lines bytes = kept_after 1 bytes
+kept_lines bytes = kept_from 1 (lines_of bytes)
 
 -- the number of the line after the last, which is reported if a text ends too early
 abbrev pub end_of : List ℕ → ℕ
-end_of bytes = end_after 1 bytes
+end_of bytes = 1 + length (lines_of bytes)

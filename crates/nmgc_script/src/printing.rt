@@ -4,7 +4,7 @@
 //! space before each token except the first. Easy to get wrong: no space ends the line of a thunk without free variables.
 ghost use Rattle.std.specs.Prelude.{◌≡◌, ◌∷◌, [], ◌++◌, decimal, map, IfOk, OnOk};
 ghost use Rattle.nmgc_commands.specs.Packed.{command_of};
-ghost use Rattle.nmgc_io.specs.Text.{after_spaces, ended, spaced};
+ghost use Rattle.nmgc_io.specs.{Spaced.after_spaces, Text.ended, Text.spaced};
 ghost use Rattle.nmgc_script.specs.{Limits.FitsScript, Printing.word_text};
 ghost use Rattle.nmgc_script.specs.Spelling.{Spells, command_words, heap_words, operand_word, plain, program_lines, section_lines, section_words, version_words};
 

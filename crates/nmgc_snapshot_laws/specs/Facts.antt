@@ -7,7 +7,7 @@
 -- Opened names make more names live. So a fact about the fields of live names alone wouldn't be kept. `fields` is about all
 -- names: the target of every field was its target in the snapshot or may be held, which stays true as names are opened.
 use Rattle.std.specs.Prelude.{◌≡◌, ◌≤◌, ◌+◌, ◌⊎◌, ℕ, length, Some, false, IsSome, All, Contains}
-use Rattle.nmgc_world_spec.specs.{declared.value.Name.Name, declared.node.Parts.Parts, declared.node.Node.Node, World.World, World.node_of, World.serial_of, World.IsWorld, Reach.IsLive, Reach.IsRoot, Reach.IsAlive, Reach.IsKeptBy, Reach.RefersTo}
+use Rattle.nmgc_world_spec.specs.{declared.value.Name.Name, declared.node.Parts.Parts, declared.node.Node.Node, World.World, World.node_of, World.serial_of, Known.IsWorld, Reach.IsLive, Reach.IsRoot, Reach.IsAlive, Reach.IsKeptBy, Reach.RefersTo}
 use Rattle.nmgc_world_spec.specs.declared.value.Value.TheVariants as value
 use Rattle.nmgc_snapshot_laws.specs.{declared.event.Entry.Entry, State.State, State.names_of}
 use Rattle.nmgc_world_laws.specs.Holds.{CoversReach, OfParts, HasStrongField, StillThere, has_result}

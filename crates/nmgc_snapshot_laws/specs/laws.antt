@@ -10,5 +10,6 @@ pub mod Openings
 pub mod Runs
 pub mod ScanReads
 pub mod Scans
+pub mod Steady
 pub mod Turns
 mod Vocabulary

@@ -7,13 +7,15 @@ use Rattle.nmgc_world_spec.specs.{Interval.Interval, Interval.IsDeadAfter, Inter
 use Rattle.nmgc_segment.specs.declared.state.State.TheVariants as stands
 use Rattle.nmgc_alloc.specs.AllocState.{IsOne, IsIn, LiesIn, AllocState}
 
--- a cycle: its number, its snapshot's stop, world and allocation state at its beginning, and the rows up to its closing
+-- a cycle: its number, its snapshot's stop, world and allocation state at its beginning, and the rows up to its closing.
+-- `earlier` are the rows up to the stop before. By that stop the marker has all objects that these rows owed
 pub record Cycle : Type 0 where
   pub number : ℕ
   pub from : ℕ
   pub snapshot : World
   pub heap : AllocState
   pub rows : List Row
+  pub earlier : List Row
 
 -- a cycle's snapshot, and the commands from the snapshot to the closing
 abbrev pub interval_of : Cycle → Interval

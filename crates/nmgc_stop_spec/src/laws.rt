@@ -1,7 +1,7 @@
 //! The laws of blocks in use, of the strong fields that words show, and of the reserve, and a sample of a heap at a stop.
 //! Each function here does nothing; its contract is the law.
 ghost use Rattle.std.specs.Prelude.{ℕ, ◌≡◌, ◌+◌, ◌*◌, ◌<◌, ◌≤◌, ◌⊎◌, List, Contains};
-ghost use Rattle.nmgc_world_spec.specs.{declared.value.Name.Name, declared.value.Value.TheVariants.Ref, declared.node.Node.Node, World.World, World.IsWorld, World.node_of, Reach.RefersTo, Reach.strong_fields};
+ghost use Rattle.nmgc_world_spec.specs.{declared.value.Name.Name, declared.value.Value.TheVariants.Ref, declared.node.Node.Node, World.World, Known.IsWorld, World.node_of, Reach.RefersTo, Reach.strong_fields};
 ghost use Rattle.nmgc_object.specs.{Places.nursery_place, Places.InSegment, declared.layout.Layout.Layout, declared.layout.TheConstants.FIRST_PLACE, Size.block_size};
 ghost use Rattle.nmgc_alloc.specs.{Numbered.Segments, Segments.IsSegments, Segments.Allocates};
 ghost use Rattle.nmgc_heap_spec.specs.{Tracked.IsTracked, Places.Place, Represents.Represents, Represents.NoNode};

@@ -1,7 +1,7 @@
 -- A sweeper in contracts, and the facts that it keeps from its cycle's beginning on.
 use Rattle.std.specs.Prelude.{ℕ, ◌*◌, ◌≤◌, List, Contains}
 use Rattle.nmgc_object.specs.declared.size.TheConstants.{MIN_BLOCK_WORDS}
-use Rattle.nmgc_alloc.specs.{Numbered.Segments, Segments.IsWaiting, AllocState.LieOnce}
+use Rattle.nmgc_alloc.specs.{Numbered.Segments, Segments.IsWaiting, Invariant.LieOnce}
 use Rattle.nmgc_world_spec.specs.Listing.{ListsNumbers}
 use Rattle.nmgc_sweep.specs.{Sweeping.HasNoted, Seen.SweeperSeen}
 use Rattle.nmgc_stop_spec.specs.Cycle.{Cycle}

@@ -1,7 +1,7 @@
 -- The sweeper of a cycle: the segments it noted and, after the closing, the names it has listed and freed.
 use Rattle.std.specs.Prelude.{ℕ, ◌≡◌, List, slice_get, Some, [], ◌↔◌, Contains}
 use Rattle.nmgc_world_spec.specs.{Listing.ListsNumbers, Listing.Counts, declared.value.Name.Name, Reach.Lists}
-use Rattle.nmgc_segment.specs.{Marks.epoch_of, Segment.IsMarked}
+use Rattle.nmgc_segment.specs.{Marks.epoch_of, Invariant.IsMarked}
 use Rattle.nmgc_segment.specs.declared.state.State.TheVariants as stands
 use Rattle.nmgc_alloc.specs.{Numbered.nth, Numbered.Segments, AllocState.AllocState, AllocState.LiesIn, AllocState.IsIn, AllocState.cells}
 use Rattle.nmgc_stop_spec.specs.{Cycle.IsSweptIn, Cycle.Cycle, Cycle.IsKeptIn, Cycle.IsDeadIn, Cycle.IsKeptObject, Waiting.AreAsNoted}

@@ -8,7 +8,7 @@
 //! Easy to get wrong: an entry depends on a block's address, not on its number, since segments change their class. Every
 //! block has at least the words of an entry, so no two blocks share an entry.
 ghost use Rattle.std.specs.Prelude.{◌≡◌, ◌<◌, length, slice_get, slice_set, Some, IfOk};
-ghost use Rattle.nmgc_object.specs.Places.{IsLayout};
+ghost use Rattle.nmgc_object.specs.Layouts.{IsLayout};
 ghost use Rattle.nmgc_sweep.specs.NameTable.{HaveEntries, entry_of};
 
 use nmgc_lists::NoMemory;

@@ -1,7 +1,7 @@
 -- The tokens of a command and its answer, as they are taken off from the end.
 use Rattle.std.proofs.{Common.◌≡◌, Common.ℕ, Common.List, Common.[], Common.◌∷◌, Common.◌++◌, Common.map, Common.refl, Common.sym, Common.ap, Common.◌∙◌, Common.Bool, Common.true, Common.false, Common.not, Common.codes, Common.Option, Common.Some, Common.None, Common.Bor, Common.append_assoc, lemmas.Bool.false≢true, lemmas.List.map_push, lemmas.List.same_from_push, lemmas.Slice.Eq.bytes_eq-Decides}
 use Rattle.std.specs.Str.{bytes_eq}
-use Rattle.nmgc_io.specs.{Text.spaced, Text.after_spaces, laws.Parts.spaced_after}
+use Rattle.nmgc_io.specs.{Text.spaced, Spaced.after_spaces, laws.Parts.spaced_after}
 use Rattle.nmgc_trace_checker.specs.Reading.{answered_at}
 use Rattle.nmgc_trace_checker.proofs.WordReads.{is_word, answered_takes, answered_again}
 

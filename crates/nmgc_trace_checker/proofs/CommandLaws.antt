@@ -58,10 +58,8 @@ last_in n (p ∷ before) front c =
     )
 
 abbrev after_three : List (List ℕ) → List (List ℕ)
-after_three [] = []
-after_three (a ∷ []) = []
-after_three (a ∷ b ∷ []) = []
 after_three (a ∷ b ∷ c ∷ lines) = lines
+after_three _ = []
 
 not_none : (lines : List (List ℕ)) (line : List ℕ) → [] ≡ lines ++ line ∷ [] → ⊥
 not_none [] line e = cc

@@ -28,8 +28,6 @@ followed s (line.Blank ∷ ls) last c =
     let C : Progress → Type 0 = λ p. Comes p ls last in
     let f : Follows s ls last = followed s ls last (subst C c.1 c.2) in
     record { machine = f.machine; last_is = f.last_is; events = f.events; runs = f.runs }
-followed s (line.Mutators count ∷ ls) last c = absurd c.1
-followed s (line.Mark ∷ ls) last c = absurd c.1
 followed s (line.Event e ∷ ls) last c =
     let C : Progress → Type 0 = λ p. Comes p ls last in
     let f : Follows c.1.0 ls last = followed c.1.0 ls last (subst C c.1.2 c.2) in
@@ -43,22 +41,18 @@ followed s (line.Drain ∷ ls) last c =
     let f : Follows c.1.0 ls last = followed c.1.0 ls last (subst C c.1.2 c.2) in
     let d : (events : List Event) × Runs s events [] c.1.0 = scans_run s c.1.0 c.1.1.0 c.1.1.1 in
     record { machine = f.machine; last_is = f.last_is; events = d.0 ++ f.events; runs = runs_join s c.1.0 f.machine d.0 f.events [] (rows_in ls) d.1 f.runs }
-followed s (line.Unknown ∷ ls) last c = absurd c.1
+followed s _ last c = absurd c.1
 
 -- THE BEGINNING OF MARKING
 
 answered_world : (w : World) (e : Event) (next : World) → IsWorld w → IsAnswered w e next → IsWorld next
 answered_world w (event.Command m c answer) next h a =
     subst IsWorld (ap (λ (p : World × Reply). p.0) a.1) (step_keeps_world w m c h a.0)
-answered_world w (event.Push m) next h a = absurd a
-answered_world w event.Scan next h a = absurd a
-answered_world w (event.Take m) next h a = absurd a
-answered_world w event.Close next h a = absurd a
+answered_world w _ next h a = absurd a
 
 abbrev IsUnmarked : Progress → Type 0
-IsUnmarked progress.Nothing = Unit {0}
-IsUnmarked (progress.Building w) = Unit {0}
 IsUnmarked (progress.Marking s) = ⊥
+IsUnmarked _ = Unit {0}
 
 -- marking begins at a line, with a closed world
 record Begins (p : Progress) (ls : List Line) (last : Progress) : Type 0 where
@@ -92,7 +86,6 @@ begun_world w h (line.Blank ∷ ls) last c =
     let C : Progress → Type 0 = λ p. Comes p ls last in
     let M : Progress → Type 0 = λ p. MayBegin p ls last in
     later_on (progress.Building w) c.0 line.Blank ls last c.1 (subst M (sym c.1) (begun_world w h ls last (subst C c.1 c.2)))
-begun_world w h (line.Mutators count ∷ ls) last c = absurd c.1
 begun_world w h (line.Mark ∷ ls) last c =
     let C : Progress → Type 0 = λ p. Comes p ls last in
     inr (record { earlier = []; later = ls; snapshot = w; lines_are = refl; built = refl; world = h; comes = subst C c.1 c.2 })
@@ -101,9 +94,7 @@ begun_world w h (line.Event e ∷ ls) last c =
     let M : Progress → Type 0 = λ p. MayBegin p ls last in
     later_on (progress.Building w) c.0 (line.Event e) ls last c.1
     (subst M (sym c.1.2) (begun_world c.1.0 (answered_world w e c.1.0 h c.1.1) ls last (subst C c.1.2 c.2)))
-begun_world w h (line.Take m name ∷ ls) last c = absurd c.1
-begun_world w h (line.Drain ∷ ls) last c = absurd c.1
-begun_world w h (line.Unknown ∷ ls) last c = absurd c.1
+begun_world w h _ last c = absurd c.1
 
 begun : (ls : List Line) (last : Progress) → Comes progress.Nothing ls last → MayBegin progress.Nothing ls last
 begun [] last c = inl (subst IsUnmarked (sym c) tt)
@@ -116,18 +107,13 @@ begun (line.Mutators count ∷ ls) last c =
     let M : Progress → Type 0 = λ p. MayBegin p ls last in
     later_on progress.Nothing c.0 (line.Mutators count) ls last c.1
     (subst M (sym c.1.2) (begun_world (new_world count) (new_is_world count c.1.0 c.1.1) ls last (subst C c.1.2 c.2)))
-begun (line.Mark ∷ ls) last c = absurd c.1
-begun (line.Event e ∷ ls) last c = absurd c.1
-begun (line.Take m name ∷ ls) last c = absurd c.1
-begun (line.Drain ∷ ls) last c = absurd c.1
-begun (line.Unknown ∷ ls) last c = absurd c.1
+begun _ last c = absurd c.1
 
 -- A CLOSED TRACE
 
 abbrev machine_in : State → Progress → State
-machine_in d progress.Nothing = d
-machine_in d (progress.Building w) = d
 machine_in d (progress.Marking s) = s
+machine_in d _ = d
 
 kept_marking : (lines : List Line) (s : State) (names : List Name) → Comes progress.Nothing lines (progress.Marking s) → s.is_closed ≡ true →
     Lists (Contains s.marked) names → IsKeptListed lines names
@@ -164,25 +150,16 @@ not_this : (names : List Name) → verdict.Closed names ≡ verdict.Unmarked →
 not_this names e = cc
 
 kept_known : (lines : List Line) (p : Progress) (names : List Name) → Comes progress.Nothing lines p → IsVerdictAfter p (verdict.Closed names) → IsKeptListed lines names
-kept_known lines progress.Nothing names c t = absurd (not_this names t)
-kept_known lines (progress.Building w) names c t = absurd (not_this names t)
 kept_known lines (progress.Marking s) names c t = kept_marking lines s names c t.0 t.1
+kept_known lines _ names c t = absurd (not_this names t)
 
 pub lists_kept : (lines : List Line) (p : Progress) (meaning : Verdict) → Comes progress.Nothing lines p → IsVerdictAfter p meaning → ListsKept lines meaning
-lists_kept lines p (verdict.Bad n) c t = tt
-lists_kept lines p (verdict.Refused n) c t = tt
-lists_kept lines p verdict.Unmarked c t = tt
-lists_kept lines p (verdict.Open names) c t = tt
 lists_kept lines p (verdict.Closed names) c t = kept_known lines p names c t
+lists_kept lines p _ c t = tt
 
 refusal_kept : (lines : List Line) (l : Line) (n : ℕ) → ListsKept lines (refusal_of l n)
 refusal_kept lines line.Blank n = tt
-refusal_kept lines (line.Mutators count) n = tt
-refusal_kept lines line.Mark n = tt
-refusal_kept lines (line.Event e) n = tt
-refusal_kept lines (line.Take m name) n = tt
-refusal_kept lines line.Drain n = tt
-refusal_kept lines line.Unknown n = tt
+refusal_kept lines _ n = tt
 
 pub refusal_shows : (lines : List Line) (l : Line) (n : ℕ) (meaning : Verdict) → meaning ≡ refusal_of l n → ListsKept lines meaning
 refusal_shows lines l n meaning e = let P : Verdict → Type 0 = ListsKept lines in subst P (sym e) (refusal_kept lines l n)

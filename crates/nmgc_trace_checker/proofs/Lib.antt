@@ -1,4 +1,5 @@
 mod Answering
+mod Appended
 mod CommandLaws
 mod Drains
 mod Each
@@ -7,12 +8,14 @@ mod Kepts
 mod LineSayings
 mod LineWords
 mod Markers
+mod Noted
+mod Outputs
 mod Readings
 mod Sayings
 mod Takes
 mod Checkings
 mod Texts
-mod Traces
+mod TraceLaws
 mod Wholes
 mod WordReads
 mod Vocabulary

@@ -8,22 +8,20 @@ use Rattle.nmgc_trace_checker.proofs.{WordReads.Given, WordReads.is_word, WordRe
 
 -- the line that tokens say, if they say any
 abbrev SaysBy : List (List ℕ) → Line → Type 0
-SaysBy words line.Blank = ⊥
 SaysBy words (line.Mutators count) = IsMutators words count
 SaysBy words line.Mark = words ≡ codes "mark" ∷ []
 SaysBy words (line.Event e) = SaysCore words e
 SaysBy words (line.Take m name) = IsTakeOf words m name
 SaysBy words line.Drain = words ≡ codes "drain" ∷ []
-SaysBy words line.Unknown = ⊥
+SaysBy words _ = ⊥
 
 count_takes : (words : List (List ℕ)) (l : Line) → count_line_at words ≡ Some l → SaysBy (codes "mutators" ∷ words) l
 unfolding count_line_at
-count_takes [] l e = absurd cc
-count_takes (w ∷ v ∷ ws) l e = absurd cc
 count_takes (w ∷ []) l e =
     let b = bind_some (byte_at w) (λ n. Some (line.Mutators n)) l e in
     let n = byte_takes w b.0 b.1 in
     subst (SaysBy (codes "mutators" ∷ w ∷ [])) (same_Some (line.Mutators b.0) l b.2) (n.1, ap (λ (x : List ℕ). codes "mutators" ∷ x ∷ []) n.0)
+count_takes _ l e = absurd cc
 
 mark_takes : (words : List (List ℕ)) (l : Line) → mark_line_at words ≡ Some l → SaysBy (codes "mark" ∷ words) l
 unfolding mark_line_at
@@ -32,12 +30,11 @@ mark_takes (w ∷ ws) l e = absurd cc
 
 push_takes : (words : List (List ℕ)) (l : Line) → push_line_at words ≡ Some l → SaysBy (codes "push" ∷ words) l
 unfolding push_line_at
-push_takes [] l e = absurd cc
-push_takes (w ∷ v ∷ ws) l e = absurd cc
 push_takes (w ∷ []) l e =
     let b = bind_some (byte_at w) (λ m. Some (line.Event (core.Push m))) l e in
     let n = byte_takes w b.0 b.1 in
     subst (SaysBy (codes "push" ∷ w ∷ [])) (same_Some (line.Event (core.Push b.0)) l b.2) (n.1, ap (λ (x : List ℕ). codes "push" ∷ x ∷ []) n.0)
+push_takes _ l e = absurd cc
 
 scan_takes : (words : List (List ℕ)) (l : Line) → scan_line_at words ≡ Some l → SaysBy (codes "scan" ∷ words) l
 unfolding scan_line_at
@@ -46,9 +43,6 @@ scan_takes (w ∷ ws) l e = absurd cc
 
 take_takes : (words : List (List ℕ)) (l : Line) → take_line_at words ≡ Some l → SaysBy (codes "take" ∷ words) l
 unfolding take_line_at
-take_takes [] l e = absurd cc
-take_takes (w ∷ []) l e = absurd cc
-take_takes (w ∷ v ∷ u ∷ ws) l e = absurd cc
 take_takes (w ∷ v ∷ []) l e =
     let a = bind_some (byte_at w) (λ m. name_at v >>= λ n. Some (line.Take m n)) l e in
     let b = bind_some (name_at v) (λ n. Some (line.Take a.0 n)) l a.2 in
@@ -58,6 +52,7 @@ take_takes (w ∷ v ∷ []) l e =
     let second : v ≡ name_text b.0 = n.0 in
     let whole : codes "take" ∷ w ∷ v ∷ [] ≡ codes "take" ∷ decimal a.0 ∷ name_text b.0 ∷ [] = cc in
     subst (SaysBy (codes "take" ∷ w ∷ v ∷ [])) (same_Some (line.Take a.0 b.0) l b.2) (m.1, n.1, whole)
+take_takes _ l e = absurd cc
 
 close_takes : (words : List (List ℕ)) (l : Line) → close_line_at words ≡ Some l → SaysBy (codes "close" ∷ words) l
 unfolding close_line_at
@@ -138,12 +133,8 @@ drain_again = refl
 
 says_by : (text : List ℕ) (l : Line) → SaysBy (tokens_of text) l → SaysLine text l
 says_by text line.Blank h = absurd h
-says_by text (line.Mutators n) h = h
-says_by text line.Mark h = h
-says_by text (line.Event e) h = h
-says_by text (line.Take m name) h = h
-says_by text line.Drain h = h
 says_by text line.Unknown h = absurd h
+says_by text _ h = h
 
 module _ (text : List ℕ) (kept : is_blank_or_comment text ≡ false) (none : plain_line_at (tokens_of text) ≡ None) where
   abbrev words : List (List ℕ)

@@ -49,17 +49,9 @@ after_event n (watch.Between w) (event.Given m c answer) after can t =
     subst Stands (sym can.2) (subst IsWorld (sym can.1.2) (step_keeps_world w m c t can.1.0))
 after_event n (watch.Between w) (event.Rows m commands) after can t = after_rows n m commands (watch.Between w) after can.1 t
 after_event n (watch.Between w) event.Mark after can t = subst Stands (sym can) (begin w t)
-after_event n (watch.Between w) (event.Push name) after can t = absurd can
-after_event n (watch.Between w) (event.Settle m) after can t = absurd can
-after_event n (watch.Between w) (event.Take name) after can t = absurd can
-after_event n (watch.Between w) event.Close after can t = absurd can
-after_event n (watch.Between w) (event.CloseWith dead) after can t = absurd can
-after_event n (watch.Between w) (event.Marked names) after can t = absurd can
-after_event n (watch.Between w) (event.Freed names) after can t = absurd can
-after_event n (watch.Between w) event.Stop after can t = absurd can
+after_event n (watch.Between w) _ after can t = absurd can
 after_event n (watch.Marking h) (event.Given m c answer) after can t = subst Stands (sym can.2) (given h can.0 n m c answer t can.1)
 after_event n (watch.Marking h) (event.Rows m commands) after can t = after_rows n m commands (watch.Marking h) after can.1 t
-after_event n (watch.Marking h) event.Mark after can t = absurd can
 after_event n (watch.Marking h) (event.Push name) after can t = subst Stands (sym can.2) (record {
   begins = t.begins;
   is = t.is;
@@ -77,32 +69,17 @@ after_event n (watch.Marking h) event.Close after can t =
     subst Stands (sym can.2) (subst IsWorld (sym can.1.ends.next_is) (closed_world h.world can.1.dead t.world))
 after_event n (watch.Marking h) (event.CloseWith dead) after can t =
     subst Stands (sym can.2) (subst IsWorld (sym can.1.ends.next_is) (closed_world h.world can.1.dead t.world))
-after_event n (watch.Marking h) (event.Marked names) after can t = absurd can
-after_event n (watch.Marking h) (event.Freed names) after can t = absurd can
-after_event n (watch.Marking h) event.Stop after can t = absurd can
+after_event n (watch.Marking h) _ after can t = absurd can
 after_event n (watch.Ended left) (event.Given m c answer) after can t =
     subst Stands (sym can.2) (subst IsWorld (sym can.1.2) (step_keeps_world left.world m c t can.1.0))
 after_event n (watch.Ended left) (event.Rows m commands) after can t = after_rows n m commands (watch.Ended left) after can.1 t
 after_event n (watch.Ended left) event.Mark after can t = subst Stands (sym can) (begin left.world t)
-after_event n (watch.Ended left) (event.Push name) after can t = absurd can
-after_event n (watch.Ended left) (event.Settle m) after can t = absurd can
-after_event n (watch.Ended left) (event.Take name) after can t = absurd can
-after_event n (watch.Ended left) event.Close after can t = absurd can
-after_event n (watch.Ended left) (event.CloseWith dead) after can t = absurd can
 after_event n (watch.Ended left) (event.Marked names) after can t = subst Stands (sym can.1) t
 after_event n (watch.Ended left) (event.Freed names) after can t = subst Stands (sym can.1) t
 after_event n (watch.Ended left) event.Stop after can t = subst Stands (sym can) tt
+after_event n (watch.Ended left) _ after can t = absurd can
 after_event n watch.Stopped (event.Given m c answer) after can t = absurd can
-after_event n watch.Stopped (event.Rows m commands) after can t = absurd can
-after_event n watch.Stopped event.Mark after can t = absurd can
-after_event n watch.Stopped (event.Push name) after can t = absurd can
-after_event n watch.Stopped (event.Settle m) after can t = absurd can
-after_event n watch.Stopped (event.Take name) after can t = absurd can
-after_event n watch.Stopped event.Close after can t = absurd can
-after_event n watch.Stopped (event.CloseWith dead) after can t = absurd can
-after_event n watch.Stopped (event.Marked names) after can t = absurd can
-after_event n watch.Stopped (event.Freed names) after can t = absurd can
-after_event n watch.Stopped event.Stop after can t = absurd can
+after_event n watch.Stopped _ after can t = absurd can
 
 abbrev StandsIn : Begun → Type 0
 StandsIn begun.Nothing = Unit {0}

@@ -1,6 +1,8 @@
 -- A trace that is read line by line: the lines read so far are the lines that the bytes say, with the progress after them.
-use Rattle.nmgc_trace_checker.proofs.Vocabulary.{◌≡◌, ◌≤◌, ◌+◌, ◌-◌, ◌^◌, ◌∙◌, ◌++◌, ℕ, refl, sym, ap, subst, arith, List, [], ◌∷◌, length, Option, Some, None, Bool, true, false, codes, IfSome, ◌&&◌, IfErr, IsErrAnd, bytes_eq, strip_last, and_parts, false≢true, length-append, bytes_eq-Decides, Line, Progress, Verdict, Meaning, Begun, Refusal, Report, TraceFault, Answer, is_refused, is_refused_there, AreWatchedLines, AreMarkedLines, IsMarked, IsWatchedOf, IsMarkedOf, IsOutcome, IsFault, IsTooLong, Comes, Happens, IsRefusal, IsReport, report_of, texts_of, ahead, AreSaid, IsNextLine, Says, SaysLine, IsVerdictAfter, refusal_of, IsWholeReport, head_of, Result, Ok, Err}
+use Rattle.std.proofs.lemmas.List.{take_at}
+use Rattle.nmgc_trace_checker.proofs.Vocabulary.{HasTried, IsNoted, IsSinceIn, AreLinesOf, AreMarkedLines, IsFault, IsFaultAfter, IsHeardUpTo, IsMarked, IsMarkedOf, IsOutcome, IsSince, IsTextAt, IsTooLong, IsWatchedBy, happened_of, head_texts, is_refused, is_refused_there, no_counts, ok_to, oks, with_line, with_lines, Comes, EndsAtLine, report_of, AreSaid, IsNextLine, Says, SaysLine, ahead, texts_of, IsVerdictAfter, refusal_of, Line, Progress, TraceFault, Begun, Refusal, Report, Answer, DueLine, TraceChecker, Counts, Meaning, Verdict, AppendsFront, nothing, head_of, Bool, Err, List, None, Ok, Option, Result, Some, [], ap, append_assoc, arith, codes, false, inl, inr, length, refl, string_bytes, subst, sym, take, true, ℕ, ◌++◌, ◌+◌, ◌-◌, ◌^◌, ◌∙◌, ◌∷◌, ◌≡◌, ◌≤◌, and_parts, false≢true, flat_map_more, length-append, bytes_eq-Decides, Appends, option_map, strip_last, Contains, IfErr, IfSome, IsErrAnd, ◌&&◌, bytes_eq}
 use Rattle.nmgc_trace_checker.specs.Outcomes.{IsWatched}
+use Rattle.nmgc_barrier_checker.specs.declared.watch.Watch.TheVariants as watch
 use Rattle.nmgc_trace_checker.specs.declared.line.Line.TheVariants as line
 use Rattle.nmgc_trace_checker.specs.declared.progress.Progress.TheVariants as progress
 use Rattle.nmgc_trace_checker.specs.declared.meaning.Meaning.TheVariants as meaning
@@ -9,9 +11,9 @@ use Rattle.nmgc_trace_checker.specs.declared.report.Report.TheVariants as report
 use Rattle.nmgc_trace_checker.specs.declared.reading.Outcome.TheVariants as outcome
 use Rattle.nmgc_trace_checker.specs.declared.reading.TraceFault.TheVariants as fault
 use Rattle.nmgc_trace_checker.specs.Trace as trace
-use Rattle.nmgc_trace_checker.proofs.{Kepts.refusal_shows, Kepts.lists_kept, Wholes.whole_report}
+use Rattle.nmgc_trace_checker.proofs.{Appended.appends_nothing, Kepts.refusal_shows, Kepts.lists_kept, Wholes.whole_report}
 use Rattle.nmgc_trace_checker.proofs.Checkings as checkings
-use Rattle.nmgc_trace_checker.proofs.Traces as traces
+use Rattle.nmgc_trace_checker.proofs.TraceLaws as traces
 
 -- the next text says one more line
 said_more : {A : Type 0} (says : List ℕ → A → Type 0) (texts : List (List ℕ)) (lines : List A) (text : List ℕ) (left : List (List ℕ)) (l : A) →
@@ -29,105 +31,225 @@ said_within says (t ∷ ts) (x ∷ xs) left is = let rest : length xs ≤ length
 
 -- FORMAT 2
 
--- these lines of the known bytes were read, and these bytes are left
-abbrev Read : Option (List ℕ) → List Meaning → Option (List ℕ) → Type 0
-Read known lines now = IfSome known (λ all. (rest : List ℕ) × (now ≡ Some rest) × AreSaid Says (texts_of all) lines (texts_of rest))
+-- the texts of the lines that were read, if the bytes are known, and these bytes are left
+abbrev Front : Option (List ℕ) → List (List ℕ) → Option (List ℕ) → Type 0
+Front known texts now = IfSome known (λ all. (rest : List ℕ) × (now ≡ Some rest) × (texts_of all ≡ texts ++ texts_of rest))
 
--- some lines were read after the head, each can happen, and the next line has this number
-pub record SoFar (known : Option (List ℕ)) (n : ℕ) (p : Begun) (now : Option (List ℕ)) : Type 0 where
+-- some lines were read after the head, each can happen, and the next line has this number. They have these answers, and the
+-- checker has their counts and kept texts
+pub record SoFar (known : Option (List ℕ)) (is_asked : Bool) (n : ℕ) (checker : TraceChecker) (now : Option (List ℕ)) (said : List ℕ) : Type 0 where
+  pub texts : List (List ℕ)
+  pub front : Front known texts now
   pub lines : List Meaning
+  pub says : AreSaid Says texts lines []
   pub count : n ≡ 2 + length lines
-  pub comes : Comes 1 begun.Nothing (meaning.Blank ∷ lines) p
-  pub read : Read known lines now
+  pub comes : Comes 1 begun.Nothing (meaning.Blank ∷ lines) checker.begun
+  pub said_is : said ≡ oks is_asked texts
+  pub counts_are : checker.counts ≡ with_lines no_counts lines
+  pub kept : (line : DueLine) → Contains checker.due_lines.items line → IsTextAt texts line.number (string_bytes line.text)
 
-nothing_said : (known : Option (List ℕ)) → Read known [] known
-nothing_said None = tt
-nothing_said (Some all) = (all, refl, refl)
+-- the lines so far, and their answers as a sink took them; its count of faults didn't fall
+pub record Answered (known : Option (List ℕ)) (is_asked : Bool) (n : ℕ) (checker : TraceChecker) (now a b : Option (List ℕ)) (before after : ℕ) : Type 0 where
+  pub said : List ℕ
+  pub written : Appends a b said
+  pub so_far : SoFar known is_asked n checker now said
+  pub later : before ≤ after
 
-pub after_the_head : (known : Option (List ℕ)) → SoFar known 2 begun.Nothing known
-after_the_head known = record { lines = []; count = refl; comes = (begun.Nothing, refl, refl); read = nothing_said known }
+no_front : (known : Option (List ℕ)) → Front known [] known
+no_front None = tt
+no_front (Some all) = (all, refl, refl)
 
--- a line was read, and says this
-read_on : (known now next : Option (List ℕ)) (lines : List Meaning) (text : List ℕ) (t : Meaning) → Read known lines now → IsNextLine now next text true →
-    Says (strip_last 13 (strip_last 10 text)) t → Read known (lines ++ t ∷ []) next
-read_on None now next lines text t r is s = tt
-read_on (Some all) now next lines text t r is s =
-    let l : (rest : List ℕ) × (next ≡ Some rest) × (texts_of r.0 ≡ ahead true text rest) =
-    subst (λ (o : Option (List ℕ)). IsNextLine o next text true) r.1 is in (
-      l.0,
-      l.1,
-      said_more Says (texts_of all) lines (strip_last 13 (strip_last 10 text)) (texts_of l.0) t
-          (subst (AreSaid Says (texts_of all) lines) l.2 r.2) s,
-    )
-
-pub one_more : (known now next : Option (List ℕ)) (n : ℕ) (p after : Begun) (text : List ℕ) (t : Meaning) → SoFar known n p now →
-    IsNextLine now next text true → Says (strip_last 13 (strip_last 10 text)) t → Happens n p t after → SoFar known (n + 1) after next
-one_more known now next n p after text t s is says h =
-    let more : length (s.lines ++ t ∷ []) ≡ length s.lines + 1 = length-append s.lines (t ∷ []) in
-    record {
-      lines = s.lines ++ t ∷ [];
-      count = (let c = s.count in omega arith);
-      comes = checkings.comes_push 1 begun.Nothing p after (meaning.Blank ∷ s.lines) t n (let c = s.count in omega arith) s.comes h;
-      read = read_on known now next s.lines text t s.read is says;
-    }
-
--- the lines of a trace up to a refused line
-refused_of : (known now : Option (List ℕ)) (lines : List Meaning) (r : Report) (why : Refusal) (n : ℕ) → r ≡ report.Refused n why → Read known lines now →
-    IfSome known (λ all. AreWatchedLines (texts_of all) lines r)
-refused_of None now lines r why n is read = tt
-refused_of (Some all) now lines r why n is read = record {
-  left = texts_of read.0;
-  said = read.2;
-  all = λ never. absurd (false≢true (sym never ∙ ap is_refused is));
+pub after_the_head : (known : Option (List ℕ)) (is_asked : Bool) (checker : TraceChecker) (a : Option (List ℕ)) (before : ℕ) →
+    checker.begun ≡ begun.Nothing → checker.counts ≡ no_counts → checker.due_lines.items ≡ [] → Answered known is_asked 2 checker known a a before before
+after_the_head known is_asked checker a before begins counts none = record {
+  said = [];
+  written = appends_nothing a;
+  so_far = record {
+    texts = [];
+    front = no_front known;
+    lines = [];
+    says = refl;
+    count = refl;
+    comes = (begun.Nothing, refl, begins);
+    said_is = refl;
+    counts_are = counts;
+    kept = λ line is. absurd (nothing line (subst (λ (ls : List DueLine). Contains ls line) none is));
+  };
+  later = omega arith;
 }
 
-pub known_refused : (known now next : Option (List ℕ)) (n : ℕ) (p : Begun) (text : List ℕ) (t : Meaning) (why : Refusal) (answer : Answer) → SoFar known n p now →
-    IsNextLine now next text true → Says (strip_last 13 (strip_last 10 text)) t → IsRefusal p t why → answer.report ≡ report.Refused n why →
-    IsWatched known answer
-known_refused known now next n p text t why answer s is says refused known_is =
-    let number : n ≡ length (meaning.Blank ∷ s.lines) + 1 = (let c = s.count in omega arith) in
-    let all : List Meaning = meaning.Blank ∷ (s.lines ++ t ∷ []) in
-    let ends : IsReport all (report.Refused n why) = record {
-      earlier = meaning.Blank ∷ s.lines;
-      line = t;
-      later = [];
-      lines_are = refl;
-      number = number;
-      before = p;
-      comes = s.comes;
-      refused = refused;
-    } in (
-      s.lines ++ t ∷ [],
-      refused_of known next (s.lines ++ t ∷ []) answer.report why n known_is (read_on known now next s.lines text t s.read is says),
-      subst (IsReport all) (sym known_is) ends,
-      subst (IsWholeReport all) (sym known_is) tt,
+not_nil : (x : List ℕ) (xs : List (List ℕ)) → x ∷ xs ≡ [] → ⊥
+not_nil x xs e = cc
+
+-- one more text says one more line
+said_push : (texts : List (List ℕ)) (lines : List Meaning) (text : List ℕ) (l : Meaning) → AreSaid Says texts lines [] → Says text l →
+    AreSaid Says (texts ++ text ∷ []) (lines ++ l ∷ []) []
+said_push [] [] text l is s = (s, refl)
+said_push (x ∷ xs) [] text l is s = absurd (not_nil x xs is)
+said_push [] (y ∷ ys) text l is s = absurd is
+said_push (x ∷ xs) (y ∷ ys) text l is s = (is.0, said_push xs ys text l is.1 s)
+
+-- the numbers of texts and lines are equal
+said_length : (texts : List (List ℕ)) (lines : List Meaning) → AreSaid Says texts lines [] → length texts ≡ length lines
+said_length [] [] is = refl
+said_length (x ∷ xs) [] is = absurd (not_nil x xs is)
+said_length [] (y ∷ ys) is = absurd is
+said_length (x ∷ xs) (y ∷ ys) is = let rest : length xs ≡ length ys = said_length xs ys is.1 in omega arith
+
+-- the next text was read
+front_on : (known now next : Option (List ℕ)) (texts : List (List ℕ)) (read line : List ℕ) → Front known texts now → IsNextLine now next read true →
+    line ≡ strip_last 13 (strip_last 10 read) → Front known (texts ++ line ∷ []) next
+front_on None now next texts read line r is cut = tt
+front_on (Some all) now next texts read line r is cut =
+    let l : (rest : List ℕ) × (next ≡ Some rest) × (texts_of r.0 ≡ ahead true read rest) =
+    subst (λ (o : Option (List ℕ)). IsNextLine o next read true) r.1 is in (
+      l.0,
+      l.1,
+      r.2 ∙ ap (λ (ts : List (List ℕ)). texts ++ ts) (l.2 ∙ ap (λ (t : List ℕ). t ∷ texts_of l.0) (sym cut)) ∙
+          sym (append_assoc texts (line ∷ []) (texts_of l.0)),
     )
 
--- the lines of a trace up to its end
-ended_of : (known now next : Option (List ℕ)) (lines : List Meaning) (text : List ℕ) (r : Report) → Read known lines now → IsNextLine now next text false →
-    IfSome known (λ all. AreWatchedLines (texts_of all) lines r)
-ended_of None now next lines text r read is = tt
-ended_of (Some all) now next lines text r read is =
-    let l : (rest : List ℕ) × (next ≡ Some rest) × (texts_of read.0 ≡ []) = subst (λ (o : Option (List ℕ)). IsNextLine o next text false) read.1 is in
-    record { left = texts_of read.0; said = read.2; all = λ fine. l.2 }
+-- the first lines, if more may follow
+lines_so_far : (known now : Option (List ℕ)) (texts : List (List ℕ)) → Front known texts now → AreLinesOf known texts true
+lines_so_far None now texts r = tt
+lines_so_far (Some all) now texts r = (texts_of r.0, r.2, λ never. absurd (false≢true (sym never)))
 
-pub known_ended : (known now next : Option (List ℕ)) (n : ℕ) (p : Begun) (text : List ℕ) (answer : Answer) → SoFar known n p now →
-    IsNextLine now next text false →
-    answer.report ≡ report_of p → IsWatched known answer
-known_ended known now next n p text answer s is known_is = (
-  s.lines,
-  ended_of known now next s.lines text answer.report s.read is,
-  checkings.ends_well (meaning.Blank ∷ s.lines) p answer.report s.comes known_is,
-  whole_report (meaning.Blank ∷ s.lines) p answer.report s.comes known_is,
-)
+-- all lines
+all_lines : (known now next : Option (List ℕ)) (texts : List (List ℕ)) (read : List ℕ) (refused : Bool) → Front known texts now →
+    IsNextLine now next read false → AreLinesOf known texts refused
+all_lines None now next texts read refused r is = tt
+all_lines (Some all) now next texts read refused r is =
+    let l : (rest : List ℕ) × (next ≡ Some rest) × (texts_of r.0 ≡ []) = subst (λ (o : Option (List ℕ)). IsNextLine o next read false) r.1 is in
+    (texts_of r.0, r.2, λ fine. l.2)
+
+-- one more line is counted
+with_lines_push : (c : Counts) (ts : List Meaning) (t : Meaning) → with_lines c (ts ++ t ∷ []) ≡ with_line (with_lines c ts) t
+with_lines_push c [] t = refl
+with_lines_push c (x ∷ xs) t = with_lines_push (with_line c x) xs t
+
+-- a text that was kept before is still the text of its line, and a text kept now is the text of this line
+kept_more : (texts : List (List ℕ)) (text : List ℕ) (n : ℕ) (old new : List DueLine) → n ≡ length texts + 2 →
+    ((line : DueLine) → Contains old line → IsTextAt texts line.number (string_bytes line.text)) → IsNoted n text old new →
+    (line : DueLine) → Contains new line → IsTextAt (texts ++ text ∷ []) line.number (string_bytes line.text)
+kept_more texts text n old new count were kept line is = elim (kept line is) [
+  | inl before ↦
+      let w : IsTextAt texts line.number (string_bytes line.text) = were line before in
+      (w.0, w.1 ++ text ∷ [], ap (λ (ts : List (List ℕ)). ts ++ text ∷ []) w.2 ∙ append_assoc w.0 (string_bytes line.text ∷ w.1) (text ∷ []), w.3)
+  | inr now ↦ (texts, [], ap (λ (t : List ℕ). texts ++ t ∷ []) (sym now.1), now.0 ∙ count)
+]
+
+-- a text kept for a debt is the text of its line
+since_in : (texts : List (List ℕ)) (n : ℕ) (kept : List DueLine) (why : Refusal) (since : Option (List ℕ)) →
+    ((line : DueLine) → Contains kept line → IsTextAt texts line.number (string_bytes line.text)) → IsSinceIn kept why since →
+    IsSince texts (report.Refused n why) since
+since_in texts n kept why None are is = tt
+since_in texts n kept why (Some text) are is =
+    let k : IsTextAt texts is.1.number (string_bytes is.1.text) = are is.1 is.3 in
+    (n, is.0, ap (report.Refused n) is.2, (k.0, k.1, k.2 ∙ ap (λ (t : List ℕ). k.0 ++ t ∷ k.1) (sym is.5), sym is.4 ∙ k.3))
+
+-- one more line was read and tried
+module _ (known now next : Option (List ℕ)) (is_asked there : Bool) (n : ℕ) (old new : TraceChecker) (said read line : List ℕ)
+    (s : SoFar known is_asked n old now said) (here : there ≡ true) (is : IsNextLine now next read there)
+    (cut : line ≡ strip_last 13 (strip_last 10 read)) where
+  front_more : Front known (s.texts ++ line ∷ []) next
+  front_more = front_on known now next s.texts read line s.front (subst (IsNextLine now next read) here is) cut
+
+  kept_all : (refused : Option Refusal) → HasTried n line old refused new → (l : DueLine) → Contains new.due_lines.items l →
+      IsTextAt (s.texts ++ line ∷ []) l.number (string_bytes l.text)
+  kept_all refused h =
+      let as_many : length s.texts ≡ length s.lines = said_length s.texts s.lines s.says in
+      kept_more s.texts line n old.due_lines.items new.due_lines.items (let c = s.count in omega (arith, as_many)) s.kept h.noted
+
+  pub one_more : (refused : Option Refusal) → refused ≡ None → HasTried n line old refused new →
+      SoFar known is_asked (n + 1) new next (said ++ ok_to is_asked line)
+  one_more refused none tried =
+      let h : HasTried n line old None new = subst (λ (o : Option Refusal). HasTried n line old o new) none tried in
+      let more : length (s.lines ++ h.line ∷ []) ≡ length s.lines + 1 = length-append s.lines (h.line ∷ []) in
+      record {
+        texts = s.texts ++ line ∷ [];
+        front = front_more;
+        lines = s.lines ++ h.line ∷ [];
+        says = said_push s.texts s.lines line h.line s.says h.says;
+        count = (let c = s.count in omega arith);
+        comes = checkings.comes_push 1 begun.Nothing old.begun new.begun (meaning.Blank ∷ s.lines) h.line n (let c = s.count in omega arith) s.comes h.happens;
+        said_is = ap (λ (l : List ℕ). l ++ ok_to is_asked line) s.said_is ∙ flat_map_more (ok_to is_asked) [] s.texts line;
+        counts_are = h.counts_are ∙ ap (λ (c : Counts). with_line c h.line) s.counts_are ∙ sym (with_lines_push no_counts s.lines h.line);
+        kept = kept_all None h;
+      }
+
+  pub known_refused : (refused : Option Refusal) (why : Refusal) (r : Report) (counts : Counts) (since : Option (List ℕ)) → refused ≡ Some why →
+      HasTried n line old refused new → r ≡ report.Refused n why → counts ≡ new.counts → IsSinceIn new.due_lines.items why since →
+      IsWatched [] known is_asked said r counts since
+  known_refused refused why r counts since some tried known_is same beside =
+      let h : HasTried n line old (Some why) new = subst (λ (o : Option Refusal). HasTried n line old o new) some tried in
+      let as_many : length s.texts ≡ length s.lines = said_length s.texts s.lines s.says in
+      let texts : List (List ℕ) = s.texts ++ line ∷ [] in
+      let first : take (n - 2) texts ≡ s.texts = take_at s.texts (line ∷ []) (n - 2) (let c = s.count in omega (arith, as_many)) in
+      let before : take (n - 2) (s.lines ++ h.line ∷ []) ≡ s.lines = take_at s.lines (h.line ∷ []) (n - 2) (let c = s.count in omega arith) in
+      let ends : EndsAtLine (meaning.Blank ∷ (s.lines ++ h.line ∷ [])) n why = record {
+        earlier = meaning.Blank ∷ s.lines;
+        line = h.line;
+        later = [];
+        lines_are = refl;
+        number = (let c = s.count in omega arith);
+        before = old.begun;
+        comes = s.comes;
+        refused = h.happens;
+      } in
+      let by : IsWatchedBy texts is_asked said (report.Refused n why) counts since = record {
+        lines = s.lines ++ h.line ∷ [];
+        says = said_push s.texts s.lines line h.line s.says h.says;
+        report_is = ends;
+        whole = tt;
+        said_is = s.said_is ∙ ap (oks is_asked) (sym first);
+        counts_are = same ∙ h.counts_are ∙ s.counts_are ∙ ap (with_lines no_counts) (sym before);
+        since_is = since_in texts n new.due_lines.items why since (kept_all (Some why) h) beside;
+      } in
+      subst (λ (x : Report). IsWatched [] known is_asked said x counts since) (sym known_is) (texts, lines_so_far known next texts front_more, by)
+
+-- no line was refused
+none_refused : {A : Type 0} (p : Begun) (r : Report) (lines : List A) → r ≡ report_of p → happened_of r lines ≡ lines
+none_refused p r lines e = ap (λ (x : Report). happened_of x lines) e ∙ by_state p
+  where
+    by_state : (q : Begun) → happened_of (report_of q) lines ≡ lines
+    by_state begun.Nothing = refl
+    by_state (begun.Watching (watch.Between w)) = refl
+    by_state q = refl
+
+module _ (known now : Option (List ℕ)) (is_asked : Bool) (n : ℕ) (checker : TraceChecker) (said : List ℕ) (s : SoFar known is_asked n checker now said) where
+  pub heard_up_to : IsHeardUpTo [] known is_asked said
+  heard_up_to = inr (
+    s.texts,
+    lines_so_far known now s.texts s.front,
+    record { lines = s.lines; says = s.says; last = checker.begun; comes = s.comes; said_is = s.said_is },
+  )
+
+  pub known_ended : (next : Option (List ℕ)) (there : Bool) (read : List ℕ) (answer : Answer) → there ≡ false → IsNextLine now next read there →
+      answer.report ≡ report_of checker.begun → answer.counts ≡ checker.counts → answer.since ≡ None →
+      IsWatched [] known is_asked said answer.report answer.counts (option_map string_bytes answer.since)
+  known_ended next there read answer over is known_is same none = (
+    s.texts,
+    all_lines known now next s.texts read (is_refused answer.report) s.front (subst (IsNextLine now next read) over is),
+    record {
+      lines = s.lines;
+      says = s.says;
+      report_is = checkings.ends_well (meaning.Blank ∷ s.lines) checker.begun answer.report s.comes known_is;
+      whole = whole_report (meaning.Blank ∷ s.lines) checker.begun answer.report s.comes known_is;
+      said_is = s.said_is ∙ ap (oks is_asked) (sym (none_refused checker.begun answer.report s.texts known_is));
+      counts_are = same ∙ s.counts_are ∙ ap (with_lines no_counts) (sym (none_refused checker.begun answer.report s.lines known_is));
+      since_is = subst (λ o. IsSince s.texts answer.report (option_map string_bytes o)) (sym none) tt;
+    },
+  )
 
 -- all numbers are used up: with the head there are that many lines
-pub watched_too_long : (known now : Option (List ℕ)) (head : List ℕ) (n : ℕ) (p : Begun) → SoFar known n p now → 2 ^ 64 - 1 ≤ n →
-    IsTooLong (ahead true head) known
-watched_too_long None now head n p s last = tt
-watched_too_long (Some all) now head n p s last =
-    let read : (rest : List ℕ) × (now ≡ Some rest) × AreSaid Says (texts_of all) s.lines (texts_of rest) = s.read in
-    let within : length s.lines ≤ length (texts_of all) = said_within Says (texts_of all) s.lines (texts_of read.0) read.2 in
+pub watched_too_long : (known now : Option (List ℕ)) (head : List ℕ) (is_asked : Bool) (n : ℕ) (checker : TraceChecker) (said : List ℕ) →
+    SoFar known is_asked n checker now said → 2 ^ 64 - 1 ≤ n → IsTooLong (ahead true head) known
+watched_too_long None now head is_asked n checker said s last = tt
+watched_too_long (Some all) now head is_asked n checker said s last =
+    let read : (rest : List ℕ) × (now ≡ Some rest) × (texts_of all ≡ s.texts ++ texts_of rest) = s.front in
+    let parts : length (texts_of all) ≡ length s.texts + length (texts_of read.0) =
+    ap (λ (ts : List (List ℕ)). length ts) read.2 ∙ length-append s.texts (texts_of read.0) in
+    let as_many : length s.texts ≡ length s.lines = said_length s.texts s.lines s.says in
     let c : n ≡ 2 + length s.lines = s.count in
     let long : 2 ^ 64 - 2 ≤ length (strip_last 13 (strip_last 10 head) ∷ texts_of all) = omega arith in
     long
@@ -193,12 +315,7 @@ module _ (known : Option (List ℕ)) (is_there : Bool) (first : List ℕ) (n : �
 
   is_refused_line : (l : Line) (k : ℕ) → is_refused_there (refusal_of l k) ≡ true
   is_refused_line line.Blank k = refl
-  is_refused_line (line.Mutators count) k = refl
-  is_refused_line line.Mark k = refl
-  is_refused_line (line.Event e) k = refl
-  is_refused_line (line.Take m name) k = refl
-  is_refused_line line.Drain k = refl
-  is_refused_line line.Unknown k = refl
+  is_refused_line _ k = refl
 
   judged_up_to : (o : Option (List ℕ)) (lines : List Line) (l : Line) (v : Verdict) → v ≡ refusal_of l n →
       IfSome o (λ all. (rest : List ℕ) × (now ≡ Some rest) × AreSaid SaysLine (ahead is_there first all) lines (texts_of rest)) →
@@ -255,24 +372,32 @@ marked_too_long (Some all) is_there first n p now goes_on text s last =
 is_head : (text : List ℕ) → bytes_eq text (codes "trace 2") ≡ true → text ≡ codes "trace 2"
 is_head text e = (bytes_eq-Decides text (codes "trace 2")).0 e
 
-watched_of : (old now : Option (List ℕ)) (is_there : Bool) (line : List ℕ) (lines : List Meaning) (r : Report) → IsNextLine old now line is_there →
-    (is_there && bytes_eq (strip_last 13 (strip_last 10 line)) (codes "trace 2")) ≡ true → IfSome now (λ rest. AreWatchedLines (texts_of rest) lines r) →
-    IfSome old (λ bytes. IsWatchedOf bytes lines r)
-watched_of None now is_there line lines r is head t = tt
-watched_of (Some bytes) now is_there line lines r is head t =
+-- the lines after the head are all lines after it
+after_head : (old now : Option (List ℕ)) (is_there : Bool) (line : List ℕ) (texts : List (List ℕ)) (refused : Bool) → IsNextLine old now line is_there →
+    (is_there && bytes_eq (strip_last 13 (strip_last 10 line)) (codes "trace 2")) ≡ true → AreLinesOf now texts refused →
+    AreLinesOf old (head_texts ++ texts) refused
+after_head None now is_there line texts refused is head h = tt
+after_head (Some bytes) now is_there line texts refused is head h =
     let p : (is_there ≡ true) × (bytes_eq (strip_last 13 (strip_last 10 line)) (codes "trace 2") ≡ true) =
     and_parts is_there (bytes_eq (strip_last 13 (strip_last 10 line)) (codes "trace 2")) head in
     let here : texts_of bytes ≡ ahead true line is.0 = subst (λ (b : Bool). texts_of bytes ≡ ahead b line is.0) p.0 is.2 in
-    record {
-      texts = texts_of is.0;
-      head = here ∙ ap (λ (l : List ℕ). l ∷ texts_of is.0) (is_head (strip_last 13 (strip_last 10 line)) p.1);
-      meaning = subst (λ (o : Option (List ℕ)). IfSome o (λ rest. AreWatchedLines (texts_of rest) lines r)) is.1 t;
-    }
+    let f : (left : List (List ℕ)) × (texts_of is.0 ≡ texts ++ left) × (refused ≡ false → left ≡ []) =
+    subst (λ (o : Option (List ℕ)). AreLinesOf o texts refused) is.1 h in (
+      f.0,
+      here ∙ ap (λ (l : List ℕ). l ∷ texts_of is.0) (is_head (strip_last 13 (strip_last 10 line)) p.1) ∙
+          ap (λ (ts : List (List ℕ)). codes "trace 2" ∷ ts) f.1,
+      f.2,
+    )
 
-pub outcome_watched : (old now : Option (List ℕ)) (is_there : Bool) (line : List ℕ) (answer : Answer) → IsNextLine old now line is_there →
-    (is_there && bytes_eq (strip_last 13 (strip_last 10 line)) (codes "trace 2")) ≡ true → IsWatched now answer → IsOutcome old (outcome.Watched answer)
-outcome_watched old now is_there line answer is head w =
-    (w.0, watched_of old now is_there line w.0 answer.report is head w.1, w.2, w.3)
+module _ (old now : Option (List ℕ)) (is_there : Bool) (line : List ℕ) (is_asked : Bool) (said : List ℕ) (is : IsNextLine old now line is_there)
+    (head : (is_there && bytes_eq (strip_last 13 (strip_last 10 line)) (codes "trace 2")) ≡ true) where
+  pub heard_after_head : IsHeardUpTo [] now is_asked said → IsHeardUpTo head_texts old is_asked said
+  heard_after_head (inl none) = inl none
+  heard_after_head (inr h) = inr (h.0, after_head old now is_there line h.0 true is head h.1, h.2)
+
+  pub outcome_watched : (answer : Answer) → IsWatched [] now is_asked said answer.report answer.counts (option_map string_bytes answer.since) →
+      IsOutcome old is_asked said (outcome.Watched answer)
+  outcome_watched answer w = (w.0, after_head old now is_there line w.0 (is_refused answer.report) is head w.1, w.2)
 
 no_head : (is_there : Bool) (line rest : List ℕ) (texts : List (List ℕ)) →
     (is_there && bytes_eq (strip_last 13 (strip_last 10 line)) (codes "trace 2")) ≡ false → ahead is_there line rest ≡ codes "trace 2" ∷ texts → ⊥
@@ -294,22 +419,45 @@ marked_of (Some bytes) now is_there line lines v is head t =
       meaning = subst (λ (texts : List (List ℕ)). AreMarkedLines texts lines v) (sym is.2) j;
     }
 
-pub outcome_marked : (old now : Option (List ℕ)) (is_there : Bool) (line : List ℕ) (v : Verdict) → IsNextLine old now line is_there →
-    (is_there && bytes_eq (strip_last 13 (strip_last 10 line)) (codes "trace 2")) ≡ false → IsMarked now is_there line v → IsOutcome old (outcome.Marked v)
-outcome_marked old now is_there line v is head m = (m.0, marked_of old now is_there line m.0 v is head m.1, m.2, m.3)
+pub outcome_marked : (old now : Option (List ℕ)) (is_there : Bool) (line : List ℕ) (is_asked : Bool) (v : Verdict) → IsNextLine old now line is_there →
+    (is_there && bytes_eq (strip_last 13 (strip_last 10 line)) (codes "trace 2")) ≡ false → IsMarked now is_there line v →
+    IsOutcome old is_asked [] (outcome.Marked v)
+outcome_marked old now is_there line is_asked v is head m = (m.0, marked_of old now is_there line m.0 v is head m.1, m.2, m.3, refl)
 
 -- FAULTS
 
 -- a fault stays a fault under a weaker condition for traces that are too long
 pub fault_by : (long longer : Type 0) (f : TraceFault) → (long → longer) → IsFault long f → IsFault longer f
-fault_by long longer fault.NoMemory follows is = tt
-fault_by long longer (fault.Io error) follows is = is
 fault_by long longer fault.TooLong follows is = follows is
+fault_by long longer f follows is = is
+
+pub fault_after_by : (long longer : Type 0) (a b : Option (List ℕ)) (rose : Type 0) (said : List ℕ) (f : TraceFault) → (long → longer) →
+    IsFaultAfter long a b rose said f → IsFaultAfter longer a b rose said f
+fault_after_by long longer a b rose said f follows (inl h) = inl (fault_by long longer f follows h.0, h.1)
+fault_after_by long longer a b rose said f follows (inr h) = inr h
 
 -- a fault of a stream, whatever the condition for traces that are too long
 pub of_stream : {A : Type 0} (long : Type 0) (r : Result A TraceFault) → IsErrAnd r (IsFault ⊥) → IfErr r (IsFault long)
 of_stream long (Ok x) is = tt
 of_stream long (Err f) is = fault_by ⊥ long f (λ never. absurd never) is
+
+-- at a fault of a stream, for lack of memory, or if an answer can't be written
+module _ {A : Type 0} (head : List (List ℕ)) (known : Option (List ℕ)) (is_asked : Bool) (long : Type 0) (a b : Option (List ℕ)) (rose : Type 0)
+    (said : List ℕ) (heard : IsHeardUpTo head known is_asked said) where
+  pub at_stream : (r : Result A TraceFault) → Appends a b said → IsErrAnd r (IsFault ⊥) →
+      IfErr r (λ f. (s : List ℕ) × IsHeardUpTo head known is_asked s × IsFaultAfter long a b rose s f)
+  at_stream (Ok x) w is = tt
+  at_stream (Err f) w is = (said, heard, inl (fault_by ⊥ long f (λ never. absurd never) is, w))
+
+  pub at_memory : (r : Result A TraceFault) → Appends a b said → IsErrAnd r (λ f. f ≡ fault.NoMemory) →
+      IfErr r (λ f. (s : List ℕ) × IsHeardUpTo head known is_asked s × IsFaultAfter long a b rose s f)
+  at_memory (Ok x) w is = tt
+  at_memory (Err f) w is = (said, heard, inl (subst (IsFault long) (sym is) tt, w))
+
+  pub at_output : (r : Result A TraceFault) → AppendsFront a b said → rose → IsErrAnd r (λ f. f ≡ fault.Unwritten) →
+      IfErr r (λ f. (s : List ℕ) × IsHeardUpTo head known is_asked s × IsFaultAfter long a b rose s f)
+  at_output (Ok x) w up is = tt
+  at_output (Err f) w up is = (said, heard, inr (is, w, up))
 
 -- the line that was read and the lines after it are all lines
 pub all_too_long : (old now : Option (List ℕ)) (is_there : Bool) (line : List ℕ) → IsNextLine old now line is_there → IsTooLong (ahead is_there line) now →

@@ -33,19 +33,17 @@ command_said text m words answer c e is =
 
 -- the line that tokens say, if they say any
 abbrev SaysBy : List (List ℕ) → Meaning → Type 0
-SaysBy words meaning.Blank = ⊥
 SaysBy words (meaning.Mutators count) = IsMutators words count
 SaysBy words (meaning.Event e) = SaysEvent words e
-SaysBy words meaning.Unknown = ⊥
+SaysBy words _ = ⊥
 
 mutators_takes : (words : List (List ℕ)) (t : Meaning) → mutators_at words ≡ Some t → SaysBy (codes "mutators" ∷ words) t
 unfolding mutators_at
-mutators_takes [] t e = absurd cc
-mutators_takes (w ∷ v ∷ ws) t e = absurd cc
 mutators_takes (w ∷ []) t e =
     let b = bind_some (byte_at w) (λ n. Some (meaning.Mutators n)) t e in
     let n = byte_takes w b.0 b.1 in
     subst (SaysBy (codes "mutators" ∷ w ∷ [])) (same_Some (meaning.Mutators b.0) t b.2) (n.1, ap (λ (x : List ℕ). codes "mutators" ∷ x ∷ []) n.0)
+mutators_takes _ t e = absurd cc
 
 mark_takes : (words : List (List ℕ)) (t : Meaning) → mark_at words ≡ Some t → SaysBy (codes "mark" ∷ words) t
 unfolding mark_at
@@ -54,9 +52,6 @@ mark_takes (w ∷ ws) t e = absurd cc
 
 push_takes : (words : List (List ℕ)) (t : Meaning) → push_at words ≡ Some t → SaysBy (codes "push" ∷ words) t
 unfolding push_at
-push_takes [] t e = absurd cc
-push_takes (w ∷ []) t e = absurd cc
-push_takes (w ∷ v ∷ u ∷ ws) t e = absurd cc
 push_takes (w ∷ v ∷ []) t e =
     let p = bind_some (pusher_at w) (λ p. name_at v >>= λ n. Some (meaning.Event (event.Push n))) t e in
     let b = bind_some (name_at v) (λ n. Some (meaning.Event (event.Push n))) t p.2 in
@@ -67,24 +62,23 @@ push_takes (w ∷ v ∷ []) t e =
       n.1,
       ap (λ (x : List ℕ). codes "push" ∷ w ∷ x ∷ []) n.0,
     )
+push_takes _ t e = absurd cc
 
 settle_takes : (words : List (List ℕ)) (t : Meaning) → settle_at words ≡ Some t → SaysBy (codes "settle" ∷ words) t
 unfolding settle_at
-settle_takes [] t e = absurd cc
-settle_takes (w ∷ v ∷ ws) t e = absurd cc
 settle_takes (w ∷ []) t e =
     let b = bind_some (byte_at w) (λ m. Some (meaning.Event (event.Settle m))) t e in
     let n = byte_takes w b.0 b.1 in
     subst (SaysBy (codes "settle" ∷ w ∷ [])) (same_Some (meaning.Event (event.Settle b.0)) t b.2) (n.1, ap (λ (x : List ℕ). codes "settle" ∷ x ∷ []) n.0)
+settle_takes _ t e = absurd cc
 
 take_takes : (words : List (List ℕ)) (t : Meaning) → take_at words ≡ Some t → SaysBy (codes "take" ∷ words) t
 unfolding take_at
-take_takes [] t e = absurd cc
-take_takes (w ∷ v ∷ ws) t e = absurd cc
 take_takes (w ∷ []) t e =
     let b = bind_some (name_at w) (λ n. Some (meaning.Event (event.Take n))) t e in
     let n = name_reads.takes w b.0 b.1 in
     subst (SaysBy (codes "take" ∷ w ∷ [])) (same_Some (meaning.Event (event.Take b.0)) t b.2) (n.1, ap (λ (x : List ℕ). codes "take" ∷ x ∷ []) n.0)
+take_takes _ t e = absurd cc
 
 named : (word : List ℕ) (words : List (List ℕ)) (names : List Name) → names_at words ≡ Some names → AreNames (word ∷ words) word names
 named word words names e = let n = names_read words names e in (n.0, ap (λ (ws : List (List ℕ)). word ∷ ws) n.1)
@@ -202,10 +196,9 @@ stop_again = refl
 -- THE MEANING OF A LINE
 
 says_by : (text : List ℕ) (t : Meaning) → SaysBy (tokens_of text) t → Says text t
-says_by text meaning.Blank h = absurd h
 says_by text (meaning.Mutators n) h = h
 says_by text (meaning.Event e) h = h
-says_by text meaning.Unknown h = absurd h
+says_by text _ h = absurd h
 
 -- tokens without a keyword can only say commands of a mutator
 module _ (words : List (List ℕ)) (none : plain_at words ≡ None) (given : (m : ℕ) (c : Command) (answer : Reply) → IsGiven words m c answer → ⊥)

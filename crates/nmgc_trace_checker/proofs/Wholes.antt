@@ -10,10 +10,8 @@ use Rattle.nmgc_trace_checker.specs.declared.report.Begun.TheVariants as begun
 -- THE RESULT OF A CLOSE
 
 abbrev left_in : CycleResult → Watch → CycleResult
-left_in d (watch.Between w) = d
-left_in d (watch.Marking h) = d
 left_in d (watch.Ended left) = left
-left_in d watch.Stopped = d
+left_in d _ = d
 
 not_marking : (left : CycleResult) (h : Cycle) → watch.Ended left ≡ watch.Marking h → ⊥
 not_marking left h e = cc
@@ -26,20 +24,16 @@ stopped_ended left e = cc
 
 -- a cycle goes on after several commands of one line
 abbrev IsMarking : Watch → Type 0
-IsMarking (watch.Between w) = ⊥
 IsMarking (watch.Marking h) = Unit {0}
-IsMarking (watch.Ended left) = ⊥
-IsMarking watch.Stopped = ⊥
+IsMarking _ = ⊥
 
 act_marking : (n m : ℕ) (c : Command) (h : Cycle) (after : Watch) → CanAct n m c (watch.Marking h) after → IsMarking after
 act_marking n m c h after can = subst IsMarking (sym can.3) tt
 
 rows_stay : (n m : ℕ) (cs : List Command) (q after : Watch) → AreDone n m cs q after → IsMarking q → IsMarking after
 rows_stay n m [] q after h is = subst IsMarking (sym h) is
-rows_stay n m (c ∷ cs) (watch.Between w) after h is = absurd is
 rows_stay n m (c ∷ cs) (watch.Marking k) after h is = rows_stay n m cs h.0 after h.2 (act_marking n m c k h.0 h.1)
-rows_stay n m (c ∷ cs) (watch.Ended left) after h is = absurd is
-rows_stay n m (c ∷ cs) watch.Stopped after h is = absurd is
+rows_stay n m (c ∷ cs) _ after h is = absurd is
 
 rows_marking : (n m : ℕ) (cs : List Command) (h : Cycle) (after : Watch) → AreDone n m cs (watch.Marking h) after → IsMarking after
 rows_marking n m cs h after done = rows_stay n m cs (watch.Marking h) after done tt
@@ -48,29 +42,23 @@ rows_marking n m cs h after done = rows_stay n m cs (watch.Marking h) after done
 kept_by : (n : ℕ) (h : Cycle) (e : Event) (left : CycleResult) → Can n (watch.Marking h) e (watch.Ended left) → Lists (MarksName h) left.kept
 kept_by n h (event.Given m c answer) left can = absurd (not_marking left can.0 can.2)
 kept_by n h (event.Rows m commands) left can = absurd (rows_marking n m commands h (watch.Ended left) can.1)
-kept_by n h event.Mark left can = absurd can
 kept_by n h (event.Push name) left can = absurd (not_marking left can.0 can.2)
 kept_by n h (event.Settle m) left can = absurd (not_marking left h can.1)
 kept_by n h (event.Take name) left can = absurd (not_marking left can.0 can.2)
 kept_by n h event.Close left can = subst (λ (l : CycleResult). Lists (MarksName h) l.kept) (sym (ap (left_in left) can.2)) can.1.kept
 kept_by n h (event.CloseWith dead) left can = subst (λ (l : CycleResult). Lists (MarksName h) l.kept) (sym (ap (left_in left) can.2)) can.1.kept
-kept_by n h (event.Marked names) left can = absurd can
-kept_by n h (event.Freed names) left can = absurd can
-kept_by n h event.Stop left can = absurd can
+kept_by n h _ left can = absurd can
 
 -- no name is due when a close ends a cycle
 paid_by : (n : ℕ) (h : Cycle) (e : Event) (left : CycleResult) → Can n (watch.Marking h) e (watch.Ended left) → h.debts ≡ []
 paid_by n h (event.Given m c answer) left can = absurd (not_marking left can.0 can.2)
 paid_by n h (event.Rows m commands) left can = absurd (rows_marking n m commands h (watch.Ended left) can.1)
-paid_by n h event.Mark left can = absurd can
 paid_by n h (event.Push name) left can = absurd (not_marking left can.0 can.2)
 paid_by n h (event.Settle m) left can = absurd (not_marking left h can.1)
 paid_by n h (event.Take name) left can = absurd (not_marking left can.0 can.2)
 paid_by n h event.Close left can = can.1.ends.debts
 paid_by n h (event.CloseWith dead) left can = can.1.ends.debts
-paid_by n h (event.Marked names) left can = absurd can
-paid_by n h (event.Freed names) left can = absurd can
-paid_by n h event.Stop left can = absurd can
+paid_by n h _ left can = absurd can
 
 exact : (lines : List Meaning) (h : Cycle) (left : CycleResult) → Closes lines h left → IsExact h left
 exact lines h left c =
@@ -92,11 +80,9 @@ exact lines h left c =
 -- A CYCLE THAT ENDS
 
 abbrev IsOver : Begun → Type 0
-IsOver begun.Nothing = ⊥
-IsOver (begun.Watching (watch.Between w)) = ⊥
-IsOver (begun.Watching (watch.Marking h)) = ⊥
 IsOver (begun.Watching (watch.Ended left)) = Unit {0}
 IsOver (begun.Watching watch.Stopped) = Unit {0}
+IsOver _ = ⊥
 
 -- the line of this number ends a cycle
 record Ends (n : ℕ) (p : Begun) (t : Meaning) : Type 0 where
@@ -119,38 +105,26 @@ not_over : (n : ℕ) (w : World) (e : Event) (after : Watch) → Can n (watch.Be
 not_over n w (event.Given m c answer) after can over = subst (λ (q : Watch). IsOver (begun.Watching q)) can.2 over
 not_over n w (event.Rows m commands) after can over = rows_between n m commands w after can.1 over
 not_over n w event.Mark after can over = subst (λ (q : Watch). IsOver (begun.Watching q)) can over
-not_over n w (event.Push name) after can over = can
-not_over n w (event.Settle m) after can over = can
-not_over n w (event.Take name) after can over = can
-not_over n w event.Close after can over = can
-not_over n w (event.CloseWith dead) after can over = can
-not_over n w (event.Marked names) after can over = can
-not_over n w (event.Freed names) after can over = can
-not_over n w event.Stop after can over = can
+not_over n w _ after can over = can
 
 -- one event never leads from a cycle to the stop
 not_stopped : (n : ℕ) (h : Cycle) (e : Event) → Can n (watch.Marking h) e watch.Stopped → ⊥
 not_stopped n h (event.Given m c answer) can = stopped_marking can.0 can.2
 not_stopped n h (event.Rows m commands) can = rows_marking n m commands h watch.Stopped can.1
-not_stopped n h event.Mark can = can
 not_stopped n h (event.Push name) can = stopped_marking can.0 can.2
 not_stopped n h (event.Settle m) can = stopped_marking h can.1
 not_stopped n h (event.Take name) can = stopped_marking can.0 can.2
 not_stopped n h event.Close can = stopped_ended can.0 can.2
 not_stopped n h (event.CloseWith dead) can = stopped_ended can.0 can.2
-not_stopped n h (event.Marked names) can = can
-not_stopped n h (event.Freed names) can = can
-not_stopped n h event.Stop can = can
+not_stopped n h _ can = can
 
 over_by : (n : ℕ) (q : Watch) (e : Event) (after : Watch) → Can n q e after → IsOver (begun.Watching after) → IsOver (begun.Watching q) ⊎
     Ends n (begun.Watching q) (meaning.Event e)
 over_by n (watch.Between w) e after can over = absurd (not_over n w e after can over)
-over_by n (watch.Marking h) e (watch.Between w) can over = absurd over
-over_by n (watch.Marking h) e (watch.Marking k) can over = absurd over
 over_by n (watch.Marking h) e (watch.Ended left) can over = inr (record { cycle = h; left = left; close = e; before = refl; line = refl; can = can })
 over_by n (watch.Marking h) e watch.Stopped can over = absurd (not_stopped n h e can)
-over_by n (watch.Ended left) e after can over = inl tt
-over_by n watch.Stopped e after can over = inl tt
+over_by n (watch.Marking h) e _ can over = absurd over
+over_by n _ e after can over = inl tt
 
 ends_at : (n : ℕ) (p : Begun) (t : Meaning) (next : Begun) → Happens n p t next → IsOver next → IsOver p ⊎ Ends n p t
 ends_at n p meaning.Blank next h over = inl (subst IsOver h over)
@@ -203,8 +177,5 @@ whole_report lines p r c e = subst (IsWholeReport lines) (sym e) (by_last p c)
     found (inr is) = is
 
     by_last : (q : Begun) → Comes 1 begun.Nothing lines q → IsWholeReport lines (report_of q)
-    by_last begun.Nothing k = tt
-    by_last (begun.Watching (watch.Between w)) k = tt
-    by_last (begun.Watching (watch.Marking h)) k = tt
-    by_last (begun.Watching (watch.Ended left)) k = tt
     by_last (begun.Watching watch.Stopped) k = (found (has_cycle [] lines 1 begun.Nothing (begun.Watching watch.Stopped) refl refl k tt), exact lines)
+    by_last _ k = tt

@@ -297,21 +297,8 @@ value_no_word (value.Ref name) h = name_no_word name h
 
 reply_again : (r : Reply) → IsReply r → reply_at (reply_text r) ≡ Some r
 unfolding reply_at done_at refused_at nothing_at
-reply_again reply.Fine h = refl
-reply_again reply.Yes h = refl
-reply_again reply.No h = refl
-reply_again reply.Updated h = refl
-reply_again reply.Already h = refl
-reply_again reply.NoPointer h = refl
-reply_again reply.NoField h = refl
-reply_again reply.WrongKind h = refl
-reply_again reply.NotOwner h = refl
-reply_again reply.Fixed h = refl
-reply_again reply.Dead h = refl
-reply_again reply.Nothing h = refl
-reply_again reply.StackFull h = refl
-reply_again reply.StackEmpty h = refl
 reply_again (reply.Given v) h = let n = value_no_word v h in rw (n.0, n.1, n.2, value_reads.again v h) refl
+reply_again _ h = refl
 
 pub reply_reads : Reads reply_at reply_text IsReply
 reply_reads = record { takes = reply_takes; again = reply_again }
@@ -324,8 +311,6 @@ onto_some w None p e = absurd cc
 onto_some w (Some q) p e = (q, refl, same_Some (w ∷ q.0, q.1) p e)
 
 pub answered_takes : (words : List (List ℕ)) (p : List (List ℕ) × List ℕ) → answered_at words ≡ Some p → words ≡ p.0 ++ codes "=" ∷ p.1 ∷ []
-answered_takes [] p e = absurd cc
-answered_takes (w ∷ []) p e = absurd cc
 answered_takes (w ∷ a ∷ []) p e =
     let g = guard_some (bytes_eq w (codes "=")) (Some ([], a)) p e in
     subst (λ (q : List (List ℕ) × List ℕ). w ∷ a ∷ [] ≡ q.0 ++ codes "=" ∷ q.1 ∷ []) (same_Some ([], a) p g.1)
@@ -334,11 +319,11 @@ answered_takes (w ∷ v ∷ u ∷ ws) p e =
     let o = onto_some w (answered_at (v ∷ u ∷ ws)) p e in
     subst (λ (q : List (List ℕ) × List ℕ). w ∷ v ∷ u ∷ ws ≡ q.0 ++ codes "=" ∷ q.1 ∷ []) o.2
     (ap (λ (l : List (List ℕ)). w ∷ l) (answered_takes (v ∷ u ∷ ws) o.0 o.1))
+answered_takes _ p e = absurd cc
 
 answered_on : (w : List ℕ) (ws : List (List ℕ)) (a : List ℕ) → answered_at (w ∷ ws ++ codes "=" ∷ a ∷ []) ≡ Some (w ∷ ws, a)
-answered_on w [] a = refl
-answered_on w (v ∷ []) a = refl
 answered_on w (v ∷ u ∷ us) a = ap (onto_command w) (answered_on v (u ∷ us) a)
+answered_on w _ a = refl
 
 pub answered_again : (ws : List (List ℕ)) (a : List ℕ) → answered_at (ws ++ codes "=" ∷ a ∷ []) ≡ Some (ws, a)
 answered_again [] a = refl

@@ -9,13 +9,8 @@ use Rattle.nmgc_trace_checker.specs.declared.verdict.Verdict.TheVariants as verd
 
 -- the row of a line that is a command, and no row for any other line
 abbrev pub row_in : Line → List Row
-row_in line.Blank = []
-row_in (line.Mutators count) = []
-row_in line.Mark = []
 row_in (line.Event e) = row_of e
-row_in (line.Take m name) = []
-row_in line.Drain = []
-row_in line.Unknown = []
+row_in _ = []
 
 -- the commands among lines, as rows of a history
 abbrev pub rows_in : List Line → List Row
@@ -36,8 +31,5 @@ pub record IsKeptListed (lines : List Line) (names : List Name) : Type 0 where
 
 -- if the verdict is a closed trace, its names are exactly the names that a cycle has to keep
 abbrev pub ListsKept : List Line → Verdict → Type 0
-ListsKept lines (verdict.Bad n) = Unit {0}
-ListsKept lines (verdict.Refused n) = Unit {0}
-ListsKept lines verdict.Unmarked = Unit {0}
-ListsKept lines (verdict.Open names) = Unit {0}
 ListsKept lines (verdict.Closed names) = IsKeptListed lines names
+ListsKept lines _ = Unit {0}

@@ -1,8 +1,12 @@
 pub mod Kept
+pub mod Notes
 pub mod Outcomes
+pub mod Program
 pub mod Reading
 pub mod Reports
 pub mod Said
+pub mod Sentences
+pub mod Shown
 pub mod Trace
 pub mod Verdicts
 pub mod Whole

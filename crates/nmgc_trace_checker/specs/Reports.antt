@@ -35,9 +35,8 @@ WhyNoBegin (begun.Watching p) count r = r ≡ refusal.Misplaced
 
 -- a refusal of an event for a reason that is a fact in this state of the watch
 abbrev pub IsReason : Watch → Event → Refusal → Type 0
-IsReason p e refusal.Unknown = ⊥
-IsReason p e refusal.Misplaced = ⊥
 IsReason p e (refusal.Event y) = IsWhy p e y
+IsReason p e _ = ⊥
 
 -- the reason why an event can't happen: there are no mutators yet, or the watch has a reason
 abbrev pub WhyNoEvent : Begun → Event → Refusal → Type 0
@@ -90,15 +89,9 @@ pub record EndsWell (lines : List Meaning) (meaning : Report) : Type 0 where
 -- the report on a trace: a refused line, or the state after all lines
 abbrev pub IsReport : List Meaning → Report → Type 0
 IsReport lines (report.Refused n r) = EndsAtLine lines n r
-IsReport lines report.Unmarked = EndsWell lines report.Unmarked
-IsReport lines report.Open = EndsWell lines report.Open
-IsReport lines report.Cut = EndsWell lines report.Cut
-IsReport lines report.Whole = EndsWell lines report.Whole
+IsReport lines r = EndsWell lines r
 
 -- whether a trace is whole: each line can happen, and the trace was stopped. The program's exit status shows it
 abbrev pub is_whole : Report → Bool
-is_whole (report.Refused n r) = false
-is_whole report.Unmarked = false
-is_whole report.Open = false
-is_whole report.Cut = false
 is_whole report.Whole = true
+is_whole r = false

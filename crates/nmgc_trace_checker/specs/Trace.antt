@@ -2,7 +2,7 @@
 -- then on each line is an event of the marking machine.
 use Rattle.std.specs.Prelude.{◌≡◌, ◌≤◌, ◌↔◌, ◌⊎◌, ◌-◌, ◌^◌, ℕ, zero, suc, List, [], ◌∷◌, Option, Some, None, Result, Ok, Err, Bool, true, false, Contains}
 use Rattle.nmgc_lists.specs.declared.memory.NoMemory.{NoMemory}
-use Rattle.nmgc_world_spec.specs.{declared.value.Name.Name, World.World, World.new_world, Step.CanApply, Step.step}
+use Rattle.nmgc_world_spec.specs.{declared.value.Name.Name, World.World, World.new_world, Known.CanApply, Step.step}
 use Rattle.nmgc_limits.specs.declared.mutators.TheConstants.{MAKERS}
 use Rattle.nmgc_snapshot_laws.specs.{declared.event.Event.Event, State.State, State.opening, Machine.IsPossible, Machine.Passes}
 use Rattle.nmgc_snapshot_laws.specs.declared.event.Event.TheVariants as event
@@ -13,10 +13,7 @@ use Rattle.nmgc_trace_checker.specs.declared.progress.Progress.TheVariants as pr
 -- an event can happen before marking: it is a command that can be given, and the heap gives this answer
 abbrev pub IsAnswered : World → Event → World → Type 0
 IsAnswered w (event.Command m c answer) next = CanApply w m c × (step w m c ≡ (next, answer))
-IsAnswered w (event.Push m) next = ⊥
-IsAnswered w event.Scan next = ⊥
-IsAnswered w (event.Take m) next = ⊥
-IsAnswered w event.Close next = ⊥
+IsAnswered w _ next = ⊥
 
 -- after a step, the marked names are the names marked before and this name
 abbrev pub MarksJust : State → Name → State → Type 0
@@ -29,14 +26,12 @@ IsTake s m name next = Passes s (event.Take m) true next × MarksJust s name nex
 -- the number of mutators can be given, once, and the trace then begins with their empty heap
 abbrev pub CanStart : Progress → ℕ → Progress → Type 0
 CanStart progress.Nothing count next = (1 ≤ count) × (count ≤ MAKERS) × (next ≡ progress.Building (new_world count))
-CanStart (progress.Building w) count next = ⊥
-CanStart (progress.Marking s) count next = ⊥
+CanStart _ count next = ⊥
 
 -- marking can begin, once; its snapshot is the world that was built
 abbrev pub CanMark : Progress → Progress → Type 0
-CanMark progress.Nothing next = ⊥
 CanMark (progress.Building w) next = next ≡ progress.Marking (opening w)
-CanMark (progress.Marking s) next = ⊥
+CanMark _ next = ⊥
 
 -- an event can happen in a trace: before marking, a command with the heap's answer; later, any event that the machine can do
 abbrev pub CanHappen : Progress → Event → Progress → Type 0
@@ -46,9 +41,8 @@ CanHappen (progress.Marking s) e next = (after : State) × Passes s e true after
 
 -- a name can be taken in a trace, after marking began
 abbrev pub CanTake : Progress → ℕ → Name → Progress → Type 0
-CanTake progress.Nothing m name next = ⊥
-CanTake (progress.Building w) m name next = ⊥
 CanTake (progress.Marking s) m name next = (after : State) × IsTake s m name after × (next ≡ progress.Marking after)
+CanTake _ m name next = ⊥
 
 -- a number of scans, one after the other
 abbrev pub Scans : State → ℕ → State → Type 0
@@ -61,9 +55,8 @@ IsDrain s next = (n : ℕ) × Scans s n next × ((IsPossible next event.Scan →
 
 -- the queue can be drained in a trace, after marking began
 abbrev pub CanDrain : Progress → Progress → Type 0
-CanDrain progress.Nothing next = ⊥
-CanDrain (progress.Building w) next = ⊥
 CanDrain (progress.Marking s) next = (after : State) × IsDrain s after × (next ≡ progress.Marking after)
+CanDrain _ next = ⊥
 
 -- a line that can happen, with the progress before and after it. `mutators` comes once, first, and `mark` once, with the
 -- built world as the snapshot. Commands with the heap's answers come before `mark`, events that the machine can do after it

@@ -9,13 +9,8 @@ use Rattle.nmgc_trace_checker.specs.declared.verdict.Verdict.TheVariants as verd
 
 -- the verdict on a line that can't happen, with its number: bad if it is no line of a trace, and refused otherwise
 abbrev pub refusal_of : Line → ℕ → Verdict
-refusal_of line.Blank n = verdict.Refused n
-refusal_of (line.Mutators count) n = verdict.Refused n
-refusal_of line.Mark n = verdict.Refused n
-refusal_of (line.Event e) n = verdict.Refused n
-refusal_of (line.Take m name) n = verdict.Refused n
-refusal_of line.Drain n = verdict.Refused n
 refusal_of line.Unknown n = verdict.Bad n
+refusal_of l n = verdict.Refused n
 
 -- the verdict on a trace with a refused or bad line: the lines before this line can happen, in order, and it can't
 pub record EndsAtLine (lines : List Line) (meaning : Verdict) : Type 0 where
@@ -30,19 +25,14 @@ pub record EndsAtLine (lines : List Line) (meaning : Verdict) : Type 0 where
 
 -- whether a trace passes: each line can happen, and marking has ended. The program's exit status shows it
 abbrev pub is_passed : Verdict → Bool
-is_passed (verdict.Bad n) = false
-is_passed (verdict.Refused n) = false
-is_passed verdict.Unmarked = false
-is_passed (verdict.Open names) = false
 is_passed (verdict.Closed names) = true
+is_passed v = false
 
 -- the verdict on a machine at the end: exactly its marked names, in order, and whether marking has ended
 abbrev pub IsVerdictOf : State → Verdict → Type 0
-IsVerdictOf s (verdict.Bad n) = ⊥
-IsVerdictOf s (verdict.Refused n) = ⊥
-IsVerdictOf s verdict.Unmarked = ⊥
 IsVerdictOf s (verdict.Open names) = (s.is_closed ≡ false) × Lists (Contains s.marked) names
 IsVerdictOf s (verdict.Closed names) = (s.is_closed ≡ true) × Lists (Contains s.marked) names
+IsVerdictOf s v = ⊥
 
 -- the verdict on a trace that ends with this progress
 abbrev pub IsVerdictAfter : Progress → Verdict → Type 0
@@ -60,6 +50,4 @@ pub record EndsWell (lines : List Line) (meaning : Verdict) : Type 0 where
 abbrev pub IsVerdict : List Line → Verdict → Type 0
 IsVerdict lines (verdict.Bad n) = EndsAtLine lines (verdict.Bad n)
 IsVerdict lines (verdict.Refused n) = EndsAtLine lines (verdict.Refused n)
-IsVerdict lines verdict.Unmarked = EndsWell lines verdict.Unmarked
-IsVerdict lines (verdict.Open names) = EndsWell lines (verdict.Open names)
-IsVerdict lines (verdict.Closed names) = EndsWell lines (verdict.Closed names)
+IsVerdict lines v = EndsWell lines v

@@ -1,6 +1,6 @@
 -- The facts that a trace of format 2 shows about the marker, though the marker isn't in the trace.
 use Rattle.std.specs.Prelude.{◌≡◌, ◌↔◌, ◌+◌, List, ◌∷◌, ◌++◌, length, Contains}
-use Rattle.nmgc_world_spec.specs.{declared.value.Name.Name, World.World, World.IsWorld}
+use Rattle.nmgc_world_spec.specs.{declared.value.Name.Name, World.World, Known.IsWorld}
 use Rattle.nmgc_snapshot_laws.specs.declared.event.Event.TheVariants as core
 use Rattle.nmgc_snapshot_laws.specs.{State.State, Machine.IsPossible, Closing.IsClosing}
 use Rattle.nmgc_barrier_laws.specs.{Cycle.Cycle, Barrier.Watches, Barrier.Beside, Barrier.HasFinished, Barrier.EndsExactly}
@@ -34,8 +34,5 @@ pub record IsExact (h : Cycle) (left : CycleResult) : Type 0 where
 
 -- the theorem about a report: in a whole trace a cycle ends, and each cycle that ends is exact
 abbrev pub IsWholeReport : List Meaning → Report → Type 0
-IsWholeReport lines (report.Refused n r) = Unit {0}
-IsWholeReport lines report.Unmarked = Unit {0}
-IsWholeReport lines report.Open = Unit {0}
-IsWholeReport lines report.Cut = Unit {0}
 IsWholeReport lines report.Whole = ((h : Cycle) × (left : CycleResult) × Closes lines h left) × ((h : Cycle) (left : CycleResult) → Closes lines h left → IsExact h left)
+IsWholeReport lines r = Unit {0}

@@ -5,7 +5,7 @@
 //!
 //! Easy to get wrong: a line feed within a command would make two lines of that script, so such a command is refused.
 ghost use Rattle.std.specs.Prelude.{◌≡◌, ◌↔◌, ◌≤◌, ◌^◌, ◌++◌, ◌∷◌, [], map, codes, length, None, Some, Contains, IsTrue, IfSome, IfNone, IfOk, OnOk};
-ghost use Rattle.nmgc_io.specs.Text.{after_spaces, spaced};
+ghost use Rattle.nmgc_io.specs.{Spaced.after_spaces, Text.spaced};
 ghost use Rattle.nmgc_trace_checker.specs.Reading.{done_at, refused_at, nothing_at, reply_at, answered_at, parts_at, script_head, IsCommandIf, IsSpelledIf, IsLastIf, IsLastOf};
 
 use crate::tokens::byte;

@@ -1,7 +1,12 @@
 //! Counts of a trace's lines. A trace may pass without a test: if no name came due, any barrier passes. So dues are counted.
+ghost use Rattle.std.specs.Prelude.{◌≡◌, ◌++◌, codes, decimal, OnOk};
+ghost use Rattle.nmgc_trace_checker.specs.{Outcomes.with_event, Outcomes.with_line, Sentences.counted_text, Sentences.dues_text, Sentences.counts_text};
+
 use crate::meaning::Meaning;
+use crate::sentence::push_text;
 use nmgc_barrier_checker::Event;
-use std::fmt;
+use nmgc_io::push_number;
+use nmgc_lists::NoMemory;
 
 /// The numbers of lines of each kind that could happen. Each count stops at 2^64 - 1.
 #[derive(Clone, Copy, Debug, PartialEq, Eq)]
@@ -12,29 +17,23 @@ pub struct Counts {
     pub commands: u64,
     /// Pushes, due or not.
     pub pushes: u64,
-    /// Names that came due, each as often as it came due (`Cycle::dues`).
-    pub dues: u64,
 }
 
 impl Counts {
-    /// No line yet.
-    pub const NONE: Counts = Counts {
-        cycles: 0,
-        commands: 0,
-        pushes: 0,
-        dues: 0,
-    };
-
-    /// Counts a line that happened and made `dues` names due.
-    pub fn add(&mut self, meaning: &Meaning, dues: u64) {
-        self.dues = self.dues.saturating_add(dues);
-        if let Meaning::Event(event) = meaning {
-            self.add_event(event);
+    /// Counts a line that happened.
+    pub fn add(&mut self, meaning: &Meaning)
+        ensures { self.new ≡ with_line self.old meaning.now }
+    {
+        match meaning {
+            Meaning::Event(event) => self.add_event(event),
+            Meaning::Blank | Meaning::Mutators(_) | Meaning::Unknown => {}
         }
     }
 
     // Counts an event if it is a command, a push or the end of a cycle.
-    fn add_event(&mut self, event: &Event) {
+    fn add_event(&mut self, event: &Event)
+        ensures { self.new ≡ with_event self.old event.now }
+    {
         match event {
             Event::Given { .. } | Event::Rows { .. } => self.commands = self
                 .commands
@@ -51,28 +50,46 @@ impl Counts {
     }
 }
 
-// Writes the counts with their nouns, and whether anything came due.
-impl fmt::Display for Counts {
-    fn fmt<W: fmt::Write>(&self, f: &mut fmt::Formatter<W>) -> fmt::Result {
-        write_count(f, self.cycles, "cycle", ", ")?;
-        write_count(f, self.commands, "command", ", ")?;
-        write!(f, "{} ", self.pushes)?;
-        f.write_str(if self.pushes == 1 { "push" } else { "pushes" })?;
-        match self.dues {
-            0 => write!(f, "; nothing came due, so no barrier was tried"),
-            1 => write!(f, "; something came due once"),
-            dues => write!(f, "; something came due {dues} times"),
-        }
+/// Appends the counts with their nouns, and how often a name came due.
+pub(crate) fn push_counts(out: &mut Vec<u8>, counts: Counts, dues: u64) -> Result<(), NoMemory>
+    ensures { OnOk result (out.new.items ≡ out.old.items ++ counts_text counts dues) }
+{
+    push_counted(out, counts.cycles, b" cycle, ", b" cycles, ")?;
+    push_counted(out, counts.commands, b" command, ", b" commands, ")?;
+    push_counted(out, counts.pushes, b" push", b" pushes")?;
+    push_dues(out, dues)
+}
+
+// Appends a number and a noun: `one` after 1, and otherwise `many`.
+fn push_counted(out: &mut Vec<u8>, number: u64, one: &[u8], many: &[u8]) -> Result<(), NoMemory>
+    ensures { OnOk result (out.new.items ≡ out.old.items ++ counted_text number one.now many.now) }
+{
+    push_number(out, number)?;
+    if number == 1 {
+        push_text(out, one)
+    } else {
+        push_text(out, many)
     }
 }
 
-// Writes `count`, the noun `what` with an `s` unless the count is 1, and the text `then`.
-fn write_count<W: fmt::Write>(
-    f: &mut fmt::Formatter<W>,
-    count: u64,
-    what: &str,
-    then: &str,
-) -> fmt::Result {
-    let end = if count == 1 { "" } else { "s" };
-    write!(f, "{count} {what}{end}{then}")
+// Appends how often a name came due.
+fn push_dues(out: &mut Vec<u8>, number: u64) -> Result<(), NoMemory>
+    ensures { OnOk result (out.new.items ≡ out.old.items ++ dues_text number) }
+{
+    if number == 0 {
+        return push_text(out, b"; nothing came due, so no barrier was tried");
+    }
+    if number == 1 {
+        return push_text(out, b"; something came due once");
+    }
+    push_many_dues(out, number)
+}
+
+// Appends that a name came due more than once.
+fn push_many_dues(out: &mut Vec<u8>, number: u64) -> Result<(), NoMemory>
+    ensures { OnOk result (out.new.items ≡ out.old.items ++ (codes "; something came due " ++ (decimal number ++ codes " times"))) }
+{
+    push_text(out, b"; something came due ")?;
+    push_number(out, number)?;
+    push_text(out, b" times")
 }

@@ -5,6 +5,7 @@
 //! - Format 2: `meaning` is the meaning of a line, and `report` the result for a trace. `checker` finds it line by line, with
 //!   `counts` of the lines. The barrier is watched (`nmgc_barrier_checker`). `sentence` spells the reason of a refusal.
 //! - `reading`: a trace of either format, read line by line.
+//! - `program`: all arguments, the output and the `status`; only files, streams and the command line are left to the program.
 //!
 //! The judge of each format is proved over lists of lines: a refused line is the first that can't happen, and the lines
 //! before it can. `tokens` and `commands` read a line's tokens, and each line is read as it is spelled (`specs/Said.antt`;
@@ -16,10 +17,12 @@ mod commands;
 mod counts;
 mod line;
 mod meaning;
+mod program;
 mod progress;
 mod reading;
 mod report;
 mod sentence;
+mod status;
 mod tokens;
 mod verdict;
 
@@ -27,6 +30,8 @@ pub use checker::Answer;
 pub use counts::Counts;
 pub use line::{Line, line_of};
 pub use meaning::{Meaning, meaning_of};
+pub use program::{Arguments, Traces, is_live, nmgc_trace};
 pub use reading::{Outcome, TraceFault, outcome_of};
-pub use report::{Refusal, Report, judge_lines};
-pub use verdict::{Verdict, judge};
+pub use report::{Refusal, Report};
+pub use status::Status;
+pub use verdict::Verdict;

@@ -1,18 +1,19 @@
 //! A trace, read line by line. A line is judged when read, and then forgotten, except for texts that `checker` keeps. So
 //! reading takes memory for the traced heap, its longest line and the kept texts, and not for the whole trace. A runtime gets
 //! its answer as soon as a line can't happen.
-ghost use Rattle.std.specs.Prelude.{◌≡◌, ◌&&◌, true, codes, string_bytes, IfErr, IfOk};
-ghost use Rattle.std.specs.{Io.BufRead.strip_last, Str.bytes_eq};
-ghost use Rattle.nmgc_trace_checker.specs.{declared.reading.TraceFault.TheVariants.NoMemory as no_memory, Outcomes.IsFault, Outcomes.IsTooLong, Outcomes.IsOutcome, Outcomes.IsMarked, Outcomes.IsWatched, Outcomes.is_passed_of, Said.IsNextLine, Said.ahead, Said.texts_of};
+ghost use Rattle.std.specs.Prelude.{◌≡◌, ◌≤◌, ◌++◌, ◌&&◌, ℕ, List, [], true, codes, string_bytes, IfErr, IfOk, OnOk};
+ghost use Rattle.std.specs.{Io.BufRead.strip_last, Io.KnownBytes.Appends, Option.option_map, Str.bytes_eq};
+ghost use Rattle.nmgc_io.specs.Counts.{Rose};
+ghost use Rattle.nmgc_trace_checker.specs.{declared.reading.TraceFault.TheVariants.NoMemory as no_memory, declared.reading.TraceFault.TheVariants.Unwritten as unwritten, Outcomes.IsFault, Outcomes.IsFaultAfter, Outcomes.IsHeardUpTo, Outcomes.IsTooLong, Outcomes.IsOutcome, Outcomes.IsMarked, Outcomes.IsWatched, Outcomes.head_texts, Outcomes.is_passed_of, Outcomes.ok_to, Said.IsNextLine, Said.ahead, Said.texts_of, Sentences.outcome_text};
 
-use crate::checker::{Answer, TraceChecker};
+use crate::checker::{Answer, TraceChecker, push_answer};
 use crate::line::line_of;
 use crate::progress::Progress;
-use crate::verdict::{Verdict, refusal, verdict_at_end};
+use crate::verdict::{Verdict, push_verdict, refusal, verdict_at_end};
+use nmgc_io::{Sink, WriteEnd, write_all};
 use nmgc_lists::NoMemory;
 use std::alloc::Global;
-use std::io::{BufRead, Print};
-use std::{fmt, io};
+use std::io::{self, BufRead};
 
 /// The result for a trace.
 #[derive(Drop)]
@@ -36,13 +37,13 @@ impl Outcome {
     }
 }
 
-// Writes the verdict or the answer.
-impl fmt::Display for Outcome {
-    fn fmt<W: fmt::Write>(&self, f: &mut fmt::Formatter<W>) -> fmt::Result {
-        match self {
-            Outcome::Marked(verdict) => write!(f, "{verdict}"),
-            Outcome::Watched(answer) => write!(f, "{answer}"),
-        }
+/// Appends the verdict or the answer.
+pub(crate) fn push_outcome(out: &mut Vec<u8>, outcome: &Outcome) -> Result<(), NoMemory>
+    ensures { OnOk result (out.new.items ≡ out.old.items ++ outcome_text outcome.now) }
+{
+    match outcome {
+        Outcome::Marked(verdict) => push_verdict(out, verdict),
+        Outcome::Watched(answer) => push_answer(out, answer),
     }
 }
 
@@ -51,10 +52,12 @@ impl fmt::Display for Outcome {
 pub enum TraceFault {
     /// There was no memory.
     NoMemory,
-    /// The trace couldn't be read, or `ok` couldn't be written, for another cause than memory.
+    /// The trace couldn't be opened or read, for another cause than memory.
     Io(io::Error),
     /// The trace has 2^64 - 2 lines or more, even if it ends at line 2^64 - 2.
     TooLong,
+    /// An `ok` couldn't be written.
+    Unwritten,
 }
 
 // A lack of memory is the fault `NoMemory`.
@@ -63,6 +66,14 @@ impl From<NoMemory> for TraceFault {
 
     fn from(_error: NoMemory) -> Self {
         TraceFault::NoMemory
+    }
+}
+
+impl From<WriteEnd> for TraceFault {
+    ghost from_gives = { λ _ fault. fault ≡ unwritten };
+
+    fn from(_end: WriteEnd) -> Self {
+        TraceFault::Unwritten
     }
 }
 
@@ -78,21 +89,33 @@ impl From<io::Error> for TraceFault {
     }
 }
 
-/// Reads a trace up to its end, or to the first line that can't happen, and returns the outcome, as `judge` or `judge_lines`
-/// reports it for some lines. If the reader shows contracts its bytes, these are the lines of that text, in order, all or up
-/// to the refused line. The first line determines the format. If `is_asked`, each empty line of a trace of format 2 is
-/// answered by `ok` once all lines before it have happened. Takes memory for the trace's heap, its longest line, and the
-/// commands of its longest copy or fill. A trace of format 2 also takes memory for lines that made names due in the current
-/// cycle, at most one for each name and mutator. An error is the reason why there is no outcome; `TooLong` means 2^64 - 2
-/// lines or more. No clause is about counts, the text of a due line, or `ok`.
-pub fn outcome_of<R: BufRead, P: Print>(
+/// Reads a trace up to its end, or to the first line that can't happen, and returns the outcome. If the reader shows contracts
+/// its bytes, the judged lines are the lines of that text, in order, all or up to the refused line. The first line determines
+/// the format. A line is refused, or in format 1 bad, exactly if it can't happen after the lines before it, which all can; a
+/// reason is a fact there. In format 1, `Open` and `Closed` list exactly the names that the marking machine has marked after
+/// all lines. The names of `Closed` are exactly the names that a cycle has to keep, by the heap and the commands alone. The
+/// snapshot of this cycle is the heap that the commands before `mark` built. In format 2 the report is `Whole` exactly if each
+/// line can happen and the last event is a stop. In a whole trace a cycle ended, and each cycle that ended had no debts. Beside
+/// each such cycle a finished marker is possible, and each finished marker can end there. A marker that ends has marked exactly
+/// the names reported as kept.
+///
+/// If `is_asked`, each empty line of a trace of format 2 is answered by `ok` once all lines before it have happened, and no
+/// other line is. Takes memory for the trace's heap, its longest line, and the commands of its longest copy or fill. A trace of
+/// format 2 also takes memory for lines that made names due in the current cycle, at most one for each name and mutator. An
+/// error is the reason why there is no outcome; `TooLong` means 2^64 - 2 lines or more. No clause gives `Io` its cause. How
+/// often a name came due is tested, and that the text of the line since which it is due is there.
+pub fn outcome_of<R: BufRead, K: Sink>(
     alloc: Global,
     reader: &mut R,
-    answers: &P,
+    answers: &mut K,
     is_asked: bool,
 ) -> Result<Outcome, TraceFault>
-    ensures outcome { IfOk result (IsOutcome (R.remaining reader.old)) }
-    ensures fault { IfErr result (IsFault (IsTooLong texts_of (R.remaining reader.old))) }
+    ensures outcome { IfOk result (λ outcome. (said : List ℕ) × Appends (K.taken answers.old) (K.taken answers.new) said ×
+        IsOutcome (R.remaining reader.old) is_asked said outcome) }
+    ensures fault { IfErr result (λ fault. (said : List ℕ) × IsHeardUpTo head_texts (R.remaining reader.old) is_asked said ×
+        IsFaultAfter (IsTooLong texts_of (R.remaining reader.old)) (K.taken answers.old) (K.taken answers.new)
+        (Rose (K.faults answers.old) (K.faults answers.new)) said fault) }
+    ensures later { K.faults answers.old ≤ K.faults answers.new }
 {
     let mut text = String::new(alloc);
     let is_there = next_line(reader, &mut text)?;
@@ -135,15 +158,19 @@ fn judge_marked<R: BufRead>(
 }
 
 // Judges a trace of format 2 whose first line was read, and returns the answer. `ok` answers empty lines if `is_asked`.
-fn judge_watched<R: BufRead, P: Print>(
+fn judge_watched<R: BufRead, K: Sink>(
     alloc: Global,
     reader: &mut R,
     mut text: String,
-    answers: &P,
+    answers: &mut K,
     is_asked: bool,
 ) -> Result<Answer, TraceFault>
-    ensures lines { IfOk result (IsWatched (R.remaining reader.old)) }
-    ensures fault { IfErr result (IsFault (IsTooLong (ahead true (string_bytes text)) (R.remaining reader.old))) }
+    ensures lines { IfOk result (λ answer. (said : List ℕ) × Appends (K.taken answers.old) (K.taken answers.new) said ×
+        IsWatched [] (R.remaining reader.old) is_asked said answer.report answer.counts (option_map string_bytes answer.since)) }
+    ensures fault { IfErr result (λ fault. (said : List ℕ) × IsHeardUpTo [] (R.remaining reader.old) is_asked said ×
+        IsFaultAfter (IsTooLong (ahead true (string_bytes text)) (R.remaining reader.old)) (K.taken answers.old) (K.taken answers.new)
+        (Rose (K.faults answers.old) (K.faults answers.new)) said fault) }
+    ensures later { K.faults answers.old ≤ K.faults answers.new }
 {
     let mut checker = TraceChecker::new(alloc);
     for number in 2..usize::MAX {
@@ -156,12 +183,23 @@ fn judge_watched<R: BufRead, P: Print>(
             let answer = checker.refusal_answer(alloc, number, refusal)?;
             return Ok(answer);
         }
-        if is_asked && line.is_empty() {
-            answers.println("ok")?;
-        }
+        write_all(answers, ok_to(is_asked, line))?;
     }
     drop(checker);
     Err(TraceFault::TooLong)
+}
+
+// Returns the answer to a line that happened: `ok` for an empty line if answers are asked for, and otherwise nothing.
+fn ok_to(is_asked: bool, line: &str) -> &'static [u8]
+    ensures { result.now ≡ ok_to is_asked line.now }
+{
+    if !is_asked {
+        return b"";
+    }
+    match line.as_bytes() {
+        [] => b"ok\n",
+        [_, ..] => b"",
+    }
 }
 
 // Replaces `text` by the next line of a trace, with its end, or by nothing if none is left. Returns whether there was one.

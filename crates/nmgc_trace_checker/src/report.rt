@@ -1,6 +1,6 @@
 //! The result for a trace of format 2: the first line that can't happen, with the reason, or whether the trace is whole.
 ghost use Rattle.std.specs.Prelude.{List, ◌≡◌, IfOk};
-ghost use Rattle.nmgc_trace_checker.specs.{Reports.IsHappening, Reports.IsReport, Reports.report_of, Reports.is_whole, Whole.IsWholeReport};
+ghost use Rattle.nmgc_trace_checker.specs.{Reports.IsHappening, Reports.report_of, Reports.is_whole};
 ghost use Rattle.nmgc_trace_checker.specs.declared.meaning.Meaning.TheVariants as known_is;
 
 use crate::meaning::Meaning;
@@ -54,28 +54,6 @@ impl Report {
             Report::Refused(_, _) | Report::Unmarked | Report::Open | Report::Cut => false,
         }
     }
-}
-
-/// Returns the report on lines of a trace of format 2. It is `Refused` exactly if some line can't happen after the lines
-/// before it. Then it has the number of the first such line, and a reason that is a fact there. Otherwise it is the state
-/// after all lines. It is `Whole` exactly if each line can happen and the last event is a stop. In a whole trace a cycle
-/// ended, and each cycle that ended had no debts. Beside each such cycle a finished marker is possible, and each finished
-/// marker can end there. A marker that ends has marked exactly the names reported as kept.
-pub fn judge_lines(alloc: Global, lines: &[Meaning]) -> Result<Report, NoMemory>
-    ensures report { IfOk result (IsReport lines.now) }
-    ensures whole { IfOk result (IsWholeReport lines.now) }
-{
-    let mut begun = Begun::Nothing;
-    for (index, meaning) in lines.iter().enumerate() {
-        let refused = do_line(&mut begun, alloc, index + 1, meaning)?;
-        if let Some(refusal) = refused {
-            drop(begun);
-            return Ok(Report::Refused(index + 1, refusal));
-        }
-    }
-    let report = report_of(&begun);
-    drop(begun);
-    Ok(report)
 }
 
 /// Does the line with this meaning and returns `None`, or returns why it can't happen. After a refusal the state may be any.

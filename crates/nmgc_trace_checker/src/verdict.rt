@@ -1,14 +1,16 @@
 //! The result for a trace of format 1: the first line that can't happen, or the names marked at the end.
-ghost use Rattle.std.specs.Prelude.{List, ◌≡◌, IfOk};
-ghost use Rattle.nmgc_trace_checker.specs.{Kept.ListsKept, Verdicts.IsVerdict, Verdicts.IsVerdictAfter, Verdicts.refusal_of};
+ghost use Rattle.std.specs.Prelude.{List, ◌≡◌, ◌++◌, IfOk, OnOk};
+ghost use Rattle.std.specs.List.{flat_map};
+ghost use Rattle.nmgc_trace_checker.specs.{Sentences.after_space, Sentences.verdict_text, Verdicts.IsVerdictAfter, Verdicts.refusal_of};
 
 use crate::line::Line;
 use crate::progress::Progress;
-use crate::sentence::write_name;
+use crate::sentence::push_text;
+use nmgc_io::push_number;
+use nmgc_journal::push_name;
 use nmgc_lists::{List, NoMemory};
 use nmgc_world_spec::Name;
 use std::alloc::Global;
-use std::fmt;
 
 /// The result for a trace. Lines are counted from 1.
 #[derive(Drop)]
@@ -39,52 +41,49 @@ impl Verdict {
     }
 }
 
-// Writes the verdict, with the marked or kept names if it has names.
-impl fmt::Display for Verdict {
-    fn fmt<W: fmt::Write>(&self, f: &mut fmt::Formatter<W>) -> fmt::Result {
-        match self {
-            Verdict::Bad(line) => write!(f, "line {line} is none of a trace"),
-            Verdict::Refused(line) => write!(f, "line {line} can't happen"),
-            Verdict::Unmarked => write!(f, "nothing is marked"),
-            Verdict::Open(names) => {
-                write!(f, "marking goes on, marked")?;
-                write_names(f, names.items())
-            }
-            Verdict::Closed(names) => {
-                write!(f, "closed, kept")?;
-                write_names(f, names.items())
-            }
+/// Appends the verdict, with the marked or kept names if it has names.
+pub(crate) fn push_verdict(out: &mut Vec<u8>, verdict: &Verdict) -> Result<(), NoMemory>
+    ensures { OnOk result (out.new.items ≡ out.old.items ++ verdict_text verdict.now) }
+{
+    match verdict {
+        Verdict::Bad(line) => {
+            push_text(out, b"line ")?;
+            push_number(out, *line as u64)?;
+            push_text(out, b" is none of a trace")
+        }
+        Verdict::Refused(line) => {
+            push_text(out, b"line ")?;
+            push_number(out, *line as u64)?;
+            push_text(out, b" can't happen")
+        }
+        Verdict::Unmarked => push_text(out, b"nothing is marked"),
+        Verdict::Open(names) => {
+            push_text(out, b"marking goes on, marked")?;
+            push_names(out, names.items())
+        }
+        Verdict::Closed(names) => {
+            push_text(out, b"closed, kept")?;
+            push_names(out, names.items())
         }
     }
 }
 
-// Writes each name after a space.
-fn write_names<W: fmt::Write>(f: &mut fmt::Formatter<W>, names: &[Name]) -> fmt::Result {
+// Appends each name after a space.
+fn push_names(out: &mut Vec<u8>, names: &[Name]) -> Result<(), NoMemory>
+    ensures { OnOk result (out.new.items ≡ out.old.items ++ flat_map after_space names.now) }
+{
     for name in names {
-        write!(f, " ")?;
-        write_name(f, *name)?;
+        push_spaced(out, *name)?;
     }
     Ok(())
 }
 
-/// Returns the verdict on the lines of a trace of format 1. The verdict is `Bad` or `Refused` exactly if some line can't
-/// happen after the lines before it, and has the number of the first such line. `Open` and `Closed` list exactly the names
-/// that the marking machine has marked after all lines. The names of `Closed` are exactly the names that a cycle has to keep,
-/// by the heap and the commands alone. The snapshot of this cycle is the heap that the commands before `mark` built.
-pub fn judge(alloc: Global, lines: &[Line]) -> Result<Verdict, NoMemory>
-    ensures verdict { IfOk result (IsVerdict lines.now) }
-    ensures kept { IfOk result (ListsKept lines.now) }
+// Appends a name after a space.
+fn push_spaced(out: &mut Vec<u8>, name: Name) -> Result<(), NoMemory>
+    ensures { OnOk result (out.new.items ≡ out.old.items ++ after_space name) }
 {
-    let mut progress = Progress::Nothing;
-    for (index, line) in lines.iter().enumerate() {
-        let next = progress.advance(alloc, line)?;
-        match next {
-            Some(reached) => progress = reached,
-            None => return Ok(refusal(line, index + 1)),
-        }
-    }
-    let meaning = verdict_at_end(progress)?;
-    Ok(meaning)
+    push_text(out, b" ")?;
+    push_name(out, name)
 }
 
 /// Returns the verdict on a trace whose line of this number can't happen: `Bad` if it is no line of a trace, else `Refused`.

@@ -1,9 +1,10 @@
--- The names that a world holds, the positions of fields in an object, and the parts of an object that stay.
+-- The names that a world holds, and the parts of an object that stay.
 --
 -- A mutator gets a name only by a read of a field that has it, or by making it. So a set that covers all names that mutators
 -- can reach (`CoversReach`) still covers them after each command that makes no name outside the set.
-use Rattle.std.specs.Prelude.{◌≡◌, ℕ, zero, suc, List, [], ◌∷◌, slice_get, Option, Some, None, Bool, true, false, IfSome, All}
-use Rattle.nmgc_world_spec.specs.{declared.value.Name.Name, declared.value.Value.Value, declared.node.Parts.Parts, declared.node.Node.Node, declared.node.Node.TheVariants.Con, declared.node.Node.TheVariants.Var, declared.node.Node.TheVariants.Arr, declared.node.Node.TheVariants.Thunk, declared.node.Node.TheVariants.Weak, declared.node.Node.TheVariants.Stack, World.World, World.state_of, World.node_of, Reach.strong_fields}
+use Rattle.std.specs.Prelude.{◌≡◌, ℕ, List, Option, Some, None, Bool, true, false, IfSome, All}
+use Rattle.nmgc_world_spec.specs.{declared.value.Name.Name, declared.value.Value.Value, declared.node.Parts.Parts, declared.node.Node.Node, declared.node.Node.TheVariants.Thunk, World.World, World.state_of, World.node_of, Reach.strong_fields}
+pub use Rattle.nmgc_world_spec.specs.Reach.{HasStrongField, strong_at}
 use Rattle.nmgc_world_spec.specs.declared.value.Value.TheVariants as value
 
 -- a value that is plain, or refers to a name of the set
@@ -25,24 +26,6 @@ pub record CoversReach (P : Name → Type 0) (w : World) : Type 0 where
 -- each of the three parts of a weak pointer is plain, or refers to a name of the set
 abbrev pub OfParts : (Name → Type 0) → Parts → Type 0
 OfParts P parts = Names P parts.key × Names P parts.value × Names P parts.finaliser
-
--- the value in a node's strong field at a position, if it has such a field
-abbrev pub strong_at : Node → ℕ → Option Value
-strong_at (Con tag values) i = slice_get values i
-strong_at (Var v) i = slice_get (v ∷ []) i
-strong_at (Arr values) i = slice_get values i
-strong_at (Thunk free None) zero = None
-strong_at (Thunk free None) (suc i) = slice_get free i
-strong_at (Thunk free (Some result)) zero = Some result
-strong_at (Thunk free (Some result)) (suc i) = None
-strong_at (Weak parts) i = None
-strong_at (Stack size values) i = slice_get values i
-
--- the name's node has this value in the strong field at a position
-pub record HasStrongField (w : World) (name : Name) (i : ℕ) (v : Value) : Type 0 where
-  pub node : Node
-  pub node_is : node_of w name ≡ Some node
-  pub field : strong_at node i ≡ Some v
 
 -- whether the node is a thunk with a result
 abbrev pub has_result : Node → Bool

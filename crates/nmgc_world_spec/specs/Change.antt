@@ -1,5 +1,4 @@
--- The effect of a change on a node, and the reply. Refusals come in the order of the cases, and leave the node as it is. The
--- definitions after `changed` split the effect in two: the replies of a change that is done, and the node that it leaves.
+-- The effect of a change on a node, and the reply. Refusals come in the order of the cases, and leave the node as it is.
 use Rattle.std.specs.Prelude.{ℕ, ◌-◌, List, [], ◌∷◌, ◌++◌, length, slice_get, slice_set, take, Option, Some, None, Bool, true, false, ◌==◌, ◌&&◌, nat_lt, if◌then◌else◌}
 use Rattle.nmgc_world_spec.specs.{declared.value.Name.Name, declared.value.Value.Value, declared.node.Parts.Parts, declared.node.Node.Node, declared.node.Node.TheVariants.Con, declared.node.Node.TheVariants.Var, declared.node.Node.TheVariants.Arr, declared.node.Node.TheVariants.Thunk, declared.node.Node.TheVariants.Weak, declared.node.Node.TheVariants.Stack, declared.command.Reply.Reply, declared.change.Change.Change}
 use Rattle.nmgc_world_spec.specs.declared.value.Value.TheVariants as value
@@ -21,15 +20,6 @@ is_same _ _ = false
 abbrev pub given_or : Reply → Option Value → Reply
 given_or refusal None = refusal
 given_or refusal (Some v) = Given v
-
--- the field at this index, if the node is a constructor, a variable or an array and has such a field; otherwise none
-abbrev pub field_in : Node → ℕ → Option Value
-field_in (Con tag values) index = slice_get values index
-field_in (Var v) index = slice_get (v ∷ []) index
-field_in (Arr values) index = slice_get values index
-field_in (Thunk free result) index = None
-field_in (Weak parts) index = None
-field_in (Stack size values) index = None
 
 -- the answer of `get`: the field at this index of a constructor, a variable or an array, or else a refusal
 abbrev pub field_read : Node → ℕ → Reply
@@ -120,49 +110,3 @@ changed (change.Update v) maker node = thunk_updated node v
 changed (change.Push m v) maker node = stack_pushed (maker == m) node v
 changed (change.Pop m) maker node = stack_popped (maker == m) node
 changed change.Finalise maker node = weak_finalised node
-
--- whether a change with this reply is done: ok, yes, updated and a value say so; after any other reply the node is as before
-abbrev pub is_done : Reply → Bool
-is_done Fine = true
-is_done Yes = true
-is_done Updated = true
-is_done (Given v) = true
-is_done _ = false
-
--- the node with the value at the index; an array without this field stays as it is, and a variable has one field at any index
-abbrev pub field_written : Node → ℕ → Value → Node
-field_written (Con tag values) index v = Con tag values
-field_written (Var old) index v = Var v
-field_written (Arr values) index v = if nat_lt index (length values) then Arr (slice_set values index v) else Arr values
-field_written (Thunk free result) index v = Thunk free result
-field_written (Weak parts) index v = Weak parts
-field_written (Stack size values) index v = Stack size values
-
--- the thunk with this value as its result; any other node stays as it is
-abbrev pub result_written : Node → Value → Node
-result_written (Thunk free result) v = Thunk free (Some v)
-result_written node v = node
-
--- the stack with this value on top, whatever its size; any other node stays as it is
-abbrev pub value_pushed : Node → Value → Node
-value_pushed (Stack size values) v = Stack size (values ++ v ∷ [])
-value_pushed node v = node
-
--- the stack without its top value; any other node stays as it is
-abbrev pub top_dropped : Node → Node
-top_dropped (Stack size values) = Stack size (without_last values)
-top_dropped node = node
-
--- the weak pointer as a dead one; any other node stays as it is
-abbrev pub killed : Node → Node
-killed (Weak parts) = Weak None
-killed node = node
-
--- the node that a change leaves if the reply says that it is done; nothing is refused here
-abbrev pub written : Change → Node → Node
-written (change.Set index v) node = field_written node index v
-written (change.Exchange index expected v) node = field_written node index v
-written (change.Update v) node = result_written node v
-written (change.Push m v) node = value_pushed node v
-written (change.Pop m) node = top_dropped node
-written change.Finalise node = killed node

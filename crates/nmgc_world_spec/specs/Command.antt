@@ -42,14 +42,6 @@ HasRegistersBelow b Yield = Unit {0}
 HasRegistersBelow b Collect = Unit {0}
 HasRegistersBelow b Full = Unit {0}
 
--- the register exists
-abbrev pub IsRegister : ℕ → Type 0
-IsRegister = IsRegisterBelow REGISTERS
-
--- the operand's register exists, if the operand is a register
-abbrev pub IsOperand : Operand → Type 0
-IsOperand = IsOperandBelow REGISTERS
-
 -- all registers of the command exist
 abbrev pub HasRegisters : Command → Type 0
 HasRegisters = HasRegistersBelow REGISTERS
@@ -81,13 +73,3 @@ pub record Fits (words : ℕ) (c : Command) : Type 0 where
   pub registers : HasRegisters c
   pub numbers : HasNumbers c
   pub size : words_made c ≤ words
-
--- the command makes an object
-abbrev pub IsMaking : Command → Type 0
-IsMaking (Con dest tag fields) = Unit {0}
-IsMaking (Var dest value) = Unit {0}
-IsMaking (Arr dest count value) = Unit {0}
-IsMaking (Thunk dest free) = Unit {0}
-IsMaking (Weak dest key value finaliser) = Unit {0}
-IsMaking (Stack dest size) = Unit {0}
-IsMaking _ = ⊥

@@ -19,6 +19,11 @@ abbrev pub IsLegal : World → List Row → Type 0
 IsLegal w [] = Unit {0}
 IsLegal w (row ∷ rows) = ((step w row.mutator row.command).1 ≡ row.reply) × IsLegal (step w row.mutator row.command).0 rows
 
+-- the property holds in every world of a history: in the world with which it begins, and after each row
+abbrev pub HoldsThroughout : (World → Type 0) → World → List Row → Type 0
+HoldsThroughout P w [] = P w
+HoldsThroughout P w (row ∷ rows) = P w × HoldsThroughout P (step w row.mutator row.command).0 rows
+
 -- the rows of one mutator, in their order
 abbrev pub rows_of : ℕ → List Row → List Row
 rows_of m rows = filter (λ row. row.mutator == m) rows

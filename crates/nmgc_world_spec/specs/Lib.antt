@@ -2,6 +2,7 @@ pub mod Change
 pub mod Command
 pub mod History
 pub mod Interval
+pub mod Known
 pub mod Listing
 pub mod Order
 pub mod Owed
@@ -9,4 +10,5 @@ pub mod Reach
 pub mod Step
 pub mod Wide
 pub mod World
+pub mod Written
 pub mod laws

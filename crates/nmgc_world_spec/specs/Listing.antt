@@ -1,5 +1,5 @@
 -- Lists of numbers and of names: in order, complete, without repetition.
-use Rattle.std.specs.Prelude.{ℕ, ◌≡◌, ◌<◌, List, [], ◌∷◌, length, Contains}
+use Rattle.std.specs.Prelude.{ℕ, ◌≡◌, ◌<◌, ◌≤◌, List, [], ◌∷◌, length, Contains}
 use Rattle.nmgc_world_spec.specs.{declared.value.Name.Name, Reach.Lists}
 
 -- each number is less than the next
@@ -22,3 +22,11 @@ AreDistinct (name ∷ names) = (Contains names name → ⊥) × AreDistinct name
 -- exactly `count` names have property P
 abbrev pub Counts : (Name → Type 0) → ℕ → Type 0
 Counts P count = (names : List Name) × Lists P names × (count ≡ length names)
+
+-- at most `count` names have property P
+abbrev pub AtMost : (Name → Type 0) → ℕ → Type 0
+AtMost P count = (names : List Name) → AreDistinct names → ((name : Name) → Contains names name → P name) → length names ≤ count
+
+-- more than `count` names have property P
+abbrev pub MoreThan : (Name → Type 0) → ℕ → Type 0
+MoreThan P count = (names : List Name) × AreDistinct names × ((name : Name) → Contains names name → P name) × (count < length names)

@@ -1,7 +1,7 @@
 -- Reachability in a world, by the weak-pointer rule. While a weak pointer's key is live, the weak pointer, its value and its
 -- finaliser are live too, even if nothing refers to the weak pointer. Each set is the least one with its rules: each
 -- constructor is a rule, and there are no further members.
-use Rattle.std.specs.Prelude.{◌≡◌, ◌⊎◌, ℕ, ◌<◌, List, [], ◌∷◌, ◌++◌, Option, Some, None, IsSome, Contains}
+use Rattle.std.specs.Prelude.{◌≡◌, ◌⊎◌, ℕ, zero, suc, ◌<◌, List, [], ◌∷◌, ◌++◌, slice_get, Option, Some, None, IsSome, Contains}
 use Rattle.nmgc_world_spec.specs.{declared.value.Name.Name, declared.value.Value.Value, declared.node.Parts.Parts, declared.node.Node.Node, declared.node.Node.TheVariants.Con, declared.node.Node.TheVariants.Var, declared.node.Node.TheVariants.Arr, declared.node.Node.TheVariants.Thunk, declared.node.Node.TheVariants.Weak, declared.node.Node.TheVariants.Stack, declared.mutator_state.MutatorState.MutatorState, World.World, World.state_of, World.node_of, Step.shared_name, Step.with_state, Step.with_node}
 use Rattle.nmgc_world_spec.specs.declared.value.Value.TheVariants as value
 
@@ -19,6 +19,24 @@ strong_fields (Stack size values) = values
 -- the name's node has a strong field that refers to the target
 abbrev pub RefersTo : World → Name → Name → Type 0
 RefersTo w name target = (node : Node) × (node_of w name ≡ Some node) × Contains (strong_fields node) (value.Ref target)
+
+-- the value in a node's strong field at a position, if it has such a field
+abbrev pub strong_at : Node → ℕ → Option Value
+strong_at (Con tag values) i = slice_get values i
+strong_at (Var v) i = slice_get (v ∷ []) i
+strong_at (Arr values) i = slice_get values i
+strong_at (Thunk free None) zero = None
+strong_at (Thunk free None) (suc i) = slice_get free i
+strong_at (Thunk free (Some result)) zero = Some result
+strong_at (Thunk free (Some result)) (suc i) = None
+strong_at (Weak parts) i = None
+strong_at (Stack size values) i = slice_get values i
+
+-- the name's node has this value in the strong field at a position
+pub record HasStrongField (w : World) (name : Name) (i : ℕ) (v : Value) : Type 0 where
+  pub node : Node
+  pub node_is : node_of w name ≡ Some node
+  pub field : strong_at node i ≡ Some v
 
 -- the names reachable from names with property P: the least set that has all names with P and follows strong fields
 pub data IsReached (w : World) (P : Name → Type 0) : Name → Type 0 where

@@ -1,17 +1,11 @@
 -- The effect of a command on a world: the next world, and the reply. It is the whole behaviour of the reference heap.
-use Rattle.std.specs.Prelude.{ℕ, ◌-◌, ◌<◌, ◌^◌, List, [], ◌∷◌, ◌++◌, length, map, drop, replicate, slice_get, slice_index_or, slice_set, Option, Some, None, if◌then◌else◌, ◌==◌}
-use Rattle.nmgc_world_spec.specs.{World.World, World.state_of, World.serial_of, World.node_of, Command.HasRegisters, Change.is_same, Change.given_or, Change.field_read, Change.result_read, Change.value_read, Change.changed, declared.value.Name.Name, declared.value.Value.Value, declared.node.Node.Node, declared.change.Change.Change, declared.mutator_state.MutatorState.MutatorState, declared.command.Operand.Operand, declared.command.Operand.TheVariants.Register, declared.command.Operand.TheVariants.Shared, declared.command.Command.Command, declared.command.Reply.Reply, declared.command.Reply.TheVariants.Fine, declared.command.Reply.TheVariants.Yes, declared.command.Reply.TheVariants.No, declared.command.Reply.TheVariants.Given, declared.command.Reply.TheVariants.NoPointer, declared.command.Reply.TheVariants.Nothing}
+use Rattle.std.specs.Prelude.{ℕ, List, [], ◌∷◌, ◌++◌, length, map, drop, replicate, slice_get, slice_index_or, slice_set, Option, Some, None, if◌then◌else◌, ◌==◌}
+use Rattle.nmgc_world_spec.specs.{World.World, World.state_of, World.node_of, Change.is_same, Change.given_or, Change.field_read, Change.result_read, Change.value_read, Change.changed, declared.value.Name.Name, declared.value.Value.Value, declared.node.Node.Node, declared.change.Change.Change, declared.mutator_state.MutatorState.MutatorState, declared.command.Operand.Operand, declared.command.Operand.TheVariants.Register, declared.command.Operand.TheVariants.Shared, declared.command.Command.Command, declared.command.Reply.Reply, declared.command.Reply.TheVariants.Fine, declared.command.Reply.TheVariants.Yes, declared.command.Reply.TheVariants.No, declared.command.Reply.TheVariants.Given, declared.command.Reply.TheVariants.NoPointer, declared.command.Reply.TheVariants.Nothing}
 use Rattle.nmgc_limits.specs.declared.mutators.TheConstants.{SHARED_MAKER}
 use Rattle.nmgc_world_spec.specs.declared.value.Value.TheVariants as value
 use Rattle.nmgc_world_spec.specs.declared.node.Node.TheVariants as node
 use Rattle.nmgc_world_spec.specs.declared.change.Change.TheVariants as change
 use Rattle.nmgc_world_spec.specs.declared.command.Command.TheVariants.{Num, Nil, Mov, Con, Var, Arr, Thunk, Weak, Stack, Get, Set, Cas, Update, Force, Push, Pop, Deref, Finalise, NextFin, Show, Same, Yield, Collect, Full}
-
--- a world can take a command: the mutator and the command's registers exist, and the mutator has a serial left
-pub record CanApply (w : World) (m : ℕ) (c : Command) : Type 0 where
-  pub mutator : m < length w.mutators
-  pub registers : HasRegisters c
-  pub serial : serial_of w m < 2 ^ 32 - 1
 
 -- the name of the shared array
 abbrev pub shared_name : Name
@@ -113,11 +107,6 @@ asked w m (Push object v) = Some (value_for w m object, change.Push m (value_for
 asked w m (Pop dest object) = Some (value_for w m object, change.Pop m)
 asked w m (Finalise dest object) = Some (value_for w m object, change.Finalise)
 asked w m c = asked_write w m c
-
--- the world after the change that a command asks for, and the reply; without such a change the world stays as it is
-abbrev pub change_asked : World → Option (Value × Change) → World × Reply
-change_asked w None = (w, Fine)
-change_asked w (Some (object, c)) = change_object w object c
 
 -- the result of a read: the world with the value that the reply gives, if any, in the register, and the reply
 abbrev pub read_into : World → ℕ → ℕ → Reply → World × Reply

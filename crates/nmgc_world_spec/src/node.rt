@@ -73,7 +73,7 @@ impl Drop for Node {
 }
 
 impl Node {
-    ghost use Rattle.nmgc_world_spec.specs.Change.{field_in};
+    ghost use Rattle.nmgc_world_spec.specs.Written.{field_in};
 
     /// Returns the field at `index` of a constructor, a variable or an array, and `None` exactly if the node is of another
     /// kind or has no such field. `get`, `cas`, the barrier and a scan all use it. Takes no memory, and constant time.

@@ -2,7 +2,7 @@
 -- exactly the names that are due by the watch. Each event keeps the tie, so a watch that ends without debts has an exact end.
 use Rattle.std.proofs.{Common.◌≡◌, Common.◌<◌, Common.ℕ, Common.List, Common.[], Common.◌∷◌, Common.◌++◌, Common.length, Common.get_or, Common.set, Common.refl, Common.sym, Common.ap, Common.subst, Common.◌∙◌, Common.arith, Common.inl, Common.inr, Common.◌⊎◌, Common.false, lemmas.List.Elements.Contains-append_left, lemmas.List.Elements.Contains-append_right, lemmas.List.Elements.Contains-append_cases, lemmas.List.Elements.Contains-get_or, lemmas.Bool.cases_eq}
 use Rattle.std.specs.Prelude.{IsSome, Contains, All, ◌↔◌}
-use Rattle.nmgc_world_spec.specs.{declared.value.Name.Name, declared.command.Command.Command, declared.command.Reply.Reply, World.World, World.node_of, World.IsWorld, Step.step, History.opened_by, History.finalised_by, Owed.owed_by}
+use Rattle.nmgc_world_spec.specs.{declared.value.Name.Name, declared.command.Command.Command, declared.command.Reply.Reply, World.World, World.node_of, Known.IsWorld, Step.step, History.opened_by, History.finalised_by, Owed.owed_by}
 use Rattle.nmgc_lists.specs.laws.Items.{contains_cases, contains_head, contains_tail, nothing_in}
 use Rattle.nmgc_world_laws.specs.laws.WorldSteps.{step_keeps_world}
 use Rattle.nmgc_snapshot_laws.specs.{State.State, State.names_of, Machine.after_command, Facts.MayHold, Facts.IsSafe, Facts.Facts, Facts.owed, Facts.pushed, Facts.marked, laws.Listed.names_same, laws.Listed.names_other, laws.Lives.live_more}
@@ -82,7 +82,7 @@ module _ (h next : Cycle) (s : State) (t : IsTied h s) (line m : ℕ) (c : Comma
   pub tied_command : IsTied next (after_owing s m c names)
   tied_command = record {
     facts = command_facts_on;
-    closed = step_keeps_world s.world m c t.closed (subst (λ (v : World). Rattle.nmgc_world_spec.specs.Step.CanApply v m c) (sym t.world) w.can);
+    closed = step_keeps_world s.world m c t.closed (subst (λ (v : World). Rattle.nmgc_world_spec.specs.Known.CanApply v m c) (sym t.world) w.can);
     is_open = t.is_open;
     world = subst (λ (v : World). (step s.world m c).0 ≡ (step v m c).0) t.world refl ∙ sym (ap (λ (x : Cycle). x.world) w.rest);
     snapshot = t.snapshot ∙ sym (ap (λ (x : Cycle). x.snapshot) w.rest);

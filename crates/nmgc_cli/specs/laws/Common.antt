@@ -1,7 +1,7 @@
 -- Lemmas that the crates above need too.
 use Rattle.std.proofs.Common.{ℕ, List, Ok, Err}
 use Rattle.std.specs.Prelude.{IfOk}
-use Rattle.nmgc_cli.specs.{Answer.Reported, Answer.IsRan, Answer.IsOfScript, Output.AnswersBytes}
+use Rattle.nmgc_cli.specs.{Answer.Reported, Answer.IsRan, Parts.IsOfScript, Output.AnswersBytes}
 
 -- a report that answers bytes is a report of a run of some script within the limits
 pub of_bytes : (bytes : List ℕ) (answer : Reported) → AnswersBytes IsRan bytes answer → IfOk answer IsOfScript

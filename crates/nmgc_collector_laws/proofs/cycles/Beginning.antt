@@ -3,6 +3,7 @@ use Rattle.nmgc_collector_laws.proofs.Vocabulary.{◌≡◌, ◌≢◌, ◌+◌,
 use Rattle.nmgc_world_spec.specs.declared.value.Value.TheVariants as value
 use Rattle.nmgc_segment.specs.declared.state.State.TheVariants as stands
 use Rattle.nmgc_collector_laws.proofs.cycles.Pushing.{all_empty}
+use Rattle.nmgc_lists.specs.laws.Items.{nothing_in}
 
 -- epochs follow one another, and none is 0
 abbrev one_or_two : Bool → ℕ
@@ -83,6 +84,7 @@ opening_rests s world =
         runs = (refl, refl);
         open_yet = b.open_yet;
         world_is = b.world_is;
+        handed = λ name owed there. absurd (nothing_in name owed);
         nothing_owed = all_empty (opening s.world).owed (λ k lt. ap (λ (l : List (List Name)). names_of l k) b.owed_is ∙
             none_at_first (length s.world.mutators) k);
       };

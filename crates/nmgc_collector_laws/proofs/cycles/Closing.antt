@@ -1,5 +1,6 @@
 -- At a stop the machine goes on by scans alone.
 use Rattle.nmgc_collector_laws.proofs.{Vocabulary.◌≡◌, Vocabulary.◌++◌, Vocabulary.List, Vocabulary.[], Vocabulary.◌∷◌, Vocabulary.map, Vocabulary.refl, Vocabulary.sym, Vocabulary.ap, Vocabulary.subst, Vocabulary.◌∙◌, Vocabulary.append-nil, Vocabulary.All, Vocabulary.Row, Vocabulary.World, Vocabulary.AreEmpty, Vocabulary.after_scan, Vocabulary.Runs, Vocabulary.State, Vocabulary.opening, Vocabulary.Happening, Vocabulary.IsLegal, Vocabulary.did, Vocabulary.scanned, Vocabulary.event_of, Vocabulary.replay, Vocabulary.rows_in, Vocabulary.IsUnread, Vocabulary.Cycle, Vocabulary.world_scanned, Vocabulary.AreScans, Vocabulary.IsMachineAtRest, Vocabulary.runs_then, cycles.Going.Leaves, cycles.Going.round_runs, cycles.Going.leaves_round, cycles.Going.same_owed}
+use Rattle.nmgc_snapshot_laws.specs.laws.MarkedOnce.{marked_runs}
 
 -- scans alone have no rows
 no_rows : (hs : List Happening) → AreScans hs → rows_in hs ≡ []
@@ -26,6 +27,8 @@ machine_scans c w core events h legal scans fresh =
         open_yet = l.is_closed ∙ m.open_yet;
         world_is = same_world core events none ∙ m.world_is;
         nothing_owed = subst AreEmpty (sym (same_owed core events none)) m.nothing_owed;
+        handed = λ name owed there. marked_runs core (map event_of events) (rows_in events) t (round_runs core events legal) (l.is_closed ∙ m.open_yet) name
+            (m.handed name owed there);
       };
       none_pushed = subst AreEmpty (sym l.pushed) h.none_pushed;
       fresh = fresh;

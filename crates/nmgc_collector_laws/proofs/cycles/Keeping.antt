@@ -37,6 +37,7 @@ cycle_is_marking s seen places world tied room queue_room nothing from noted not
         runs = (refl, refl);
         open_yet = b.open_yet;
         world_is = b.world_is;
+        handed = λ name owed there. absurd (nothing_in name owed);
         nothing_owed = all_empty core.owed (λ k lt. ap (λ (l : List (List Name)). names_of l k) b.owed_is ∙ none_at_first (length s.world.mutators) k);
       };
       tied = tied;

@@ -2,6 +2,8 @@
 use Rattle.nmgc_collector_laws.proofs.Vocabulary.{◌≡◌, ◌<◌, ℕ, Bool, true, false, List, [], ◌++◌, map, sym, ap, subst, ◌∙◌, arith, append-nil, Some, slice_get, Contains, filter, slice_get_within, Name, World, Row, nursery_place, Event, Facts, is_pushed_in, Runs, State, names_of, opening, facts_kept, snapshot_theorem, map_item, event_of, rows_in, Opening, Part, Seen, marks_of, now, Owes, AreOwed, CanOpen, IsFinished, places_then, Mutator, remembered_of, all_pushed, Done, HaveWorked, own_part, parts_are, slice_at, item, item_found, AreRemembered, IsCoreOf, Cycle, IsMachineAtRest, with_rows, HaveOwed, SlicesAreOwed, GoesOn, MachineGoesOn, runs_then, each_empty}
 use Rattle.nmgc_round.specs.Objects.{IsIn}
 use Rattle.nmgc_collector_laws.proofs.{cycles.Going.Leaves, cycles.Going.round_runs, cycles.Going.leaves_round, cycles.Pushing.AllPushed, cycles.Pushing.push_all, cycles.Remembering.all_found, cycles.Remembering.pushed_low, cycles.Seats.parts_gathered}
+use Rattle.nmgc_snapshot_laws.specs.laws.MarkedOnce.{marked_runs}
+use Rattle.nmgc_collector_laws.proofs.cycles.Handed.{owed_marked}
 
 pub slices_owed : SlicesAreOwed
 slices_owed o before round old mutators seats done scans opens h nothing k p n there new =
@@ -58,6 +60,11 @@ module _ (c : Cycle) (o : Opening) (before words : List ℕ) (v : Seen) (mutator
     open_yet = ap (λ (x : State). x.is_closed) all.1.rest ∙ running;
     world_is = ap (λ (x : State). x.world) all.1.rest;
     nothing_owed = all.1.none;
+    handed = λ name owed there.
+        let before = owed_marked c.snapshot rest.sound.world name there rest.machine.events c.rows o.core rest.machine.runs rest.machine.open_yet
+        rest.machine.nothing_owed rest.none_pushed owed in
+        let beside = marked_runs o.core (map event_of h.events) (rows_in h.events) then (round_runs o.core h.events h.legal) running name before in
+        marked_runs then all.1.events [] core all.1.runs (ap (λ (x : State). x.is_closed) all.1.rest ∙ running) name beside;
   }
 
   -- a mutator of the round with its part

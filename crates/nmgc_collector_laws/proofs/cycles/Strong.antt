@@ -1,8 +1,10 @@
--- If no command owes anything, exactly the names that strong fields reach from the snapshot's roots are marked.
-use Rattle.nmgc_collector_laws.proofs.Vocabulary.{◌≡◌, ◌<◌, ℕ, zero, suc, Bool, true, false, List, [], ◌∷◌, ◌++◌, length, refl, sym, ap, subst, ◌∙◌, arith, inl, inr, Option, Some, None, IsSome, IfSome, All, Contains, is_some, flat_map, and_parts, All-nil, All-append, All-head, All-tail, All-contains, Contains-append_left, Contains-append_right, Contains-append_cases, get_or_from_slice_get, Command, Reply, MutatorState, Node, Con, Var, Arr, Thunk, Weak, Stack, Name, Value, World, IsWorld, node_of, state_of, no_mutator, CanApply, next_name, shared_name, step, Row, IsReached, IsRoot, RefersTo, strong_fields, contains_head, contains_tail, at_some, is_some_of, nothing_in, one_is, not_shared, Names, Fields, CoversReach, has_result, strong_at, owed_by, field_at_place, some_of, all_moves, opened_owed, Entry, Event, Facts, IsSafe, IsAhead, marked, owed, queued, Passes, after_scan, advanced, Runs, read_at, field_at, State, names_of, is_listed, mark_name, mark_read, mark_values, opening, root_values, first_state, next_absent, all_from_contains, each_names, live_there, stands, mark_cases, event_keeps_facts, opening_has_facts, opening_world, snapshot_theorem, read_cases, world_scanned, owed_along, stays_closed, none_at_first, thunk_free, not}
+-- Only names that strong fields of the snapshot reach from its roots, or from opened names, are marked. If no command owes
+-- anything, exactly the names that they reach from the roots are marked.
+use Rattle.nmgc_collector_laws.proofs.Vocabulary.{◌≡◌, ◌<◌, ℕ, zero, suc, true, false, List, [], ◌∷◌, ◌++◌, length, refl, sym, ap, subst, ◌∙◌, arith, inl, inr, Option, Some, None, IsSome, IfSome, All, Contains, is_some, flat_map, and_parts, All-nil, All-append, All-head, All-tail, All-contains, Contains-append_left, Contains-append_right, Contains-append_cases, get_or_from_slice_get, Command, Reply, MutatorState, Node, Con, Var, Arr, Thunk, Weak, Stack, Name, Value, World, IsWorld, node_of, state_of, no_mutator, CanApply, next_name, shared_name, step, Row, IsReached, IsRoot, RefersTo, strong_fields, contains_head, contains_tail, at_some, is_some_of, nothing_in, one_is, not_shared, Names, Fields, CoversReach, has_result, strong_at, owed_by, field_at_place, some_of, all_moves, opened_owed, Entry, Event, Facts, IsSafe, IsAhead, marked, owed, queued, Passes, after_scan, advanced, Runs, read_at, field_at, State, names_of, is_listed, mark_name, mark_read, mark_values, opening, root_values, first_state, next_absent, all_from_contains, each_names, live_there, stands, mark_cases, event_keeps_facts, opening_has_facts, opening_world, snapshot_theorem, read_cases, world_scanned, owed_along, none_at_first, thunk_free, not}
 use Rattle.nmgc_lists.specs.laws.Items.{place_of}
-use Rattle.nmgc_world_laws.specs.Holds.{free_of}
-use Rattle.nmgc_snapshot_laws.specs.Facts.{pushed, unmarked}
+use Rattle.nmgc_world_laws.specs.{Holds.free_of, laws.Moves.RespectsBarrier}
+use Rattle.nmgc_world_spec.specs.{History.opened_by, Owed.values_owed}
+use Rattle.nmgc_snapshot_laws.specs.{Facts.pushed, Facts.unmarked, laws.MarkedOnce.open_before}
 use Rattle.nmgc_world_spec.specs.declared.value.Value.TheVariants as value
 use Rattle.nmgc_snapshot_laws.specs.declared.event.Event.TheVariants as event
 use Rattle.nmgc_collector_laws.proofs.{cycles.Beginning.IsBegun, cycles.Beginning.begun, cycles.Going.Leaves, cycles.Going.leaves_scan, cycles.Going.owed_scan}
@@ -25,14 +27,14 @@ waiting_thunk (Thunk own (Some result)) free none e = absurd cc
 waiting_thunk (Weak parts) free none e = absurd cc
 waiting_thunk (Stack size values) free none e = absurd cc
 
-module _ (S : World) (is : IsWorld S) where
-  -- reached in the snapshot, by strong fields alone
-  abbrev pub Strong : Name → Type 0
-  Strong n = IsReached S (IsRoot S) n
+module _ (S : World) (is : IsWorld S) (First : Name → Type 0) (roots : (n : Name) → IsRoot S n → First n) where
+  -- reached in the snapshot, by strong fields alone, from its roots or other first names
+  abbrev pub Reached : Name → Type 0
+  Reached n = IsReached S First n
 
   -- or made since
-  abbrev Kept : Name → Type 0
-  Kept n = IsSome (node_of S n) → Strong n
+  abbrev pub Kept : Name → Type 0
+  Kept n = IsSome (node_of S n) → Reached n
 
   -- values held by the snapshot's roots and reached objects
   held_fields : (name : Name) → Kept name → (o : Option Node) → node_of S name ≡ o → IfSome o (Fields (Names Kept))
@@ -43,14 +45,14 @@ module _ (S : World) (is : IsWorld S) where
   snapshot_holds : CoversReach Kept S
   snapshot_holds = record {
     registers = λ m. all_from_contains Kept (state_of S m).registers (λ n c there.
-        IsReached.start n (inr (m, Contains-append_left (state_of S m).registers (state_of S m).queue (value.Ref n) c)));
+        IsReached.start n (roots n (inr (m, Contains-append_left (state_of S m).registers (state_of S m).queue (value.Ref n) c))));
     queues = λ m. all_from_contains Kept (state_of S m).queue (λ n c there.
-        IsReached.start n (inr (m, Contains-append_right (state_of S m).registers (state_of S m).queue (value.Ref n) c)));
+        IsReached.start n (roots n (inr (m, Contains-append_right (state_of S m).registers (state_of S m).queue (value.Ref n) c))));
     fields = λ name k. held_fields name k (node_of S name) refl;
   }
 
-  shared_kept : Kept shared_name
-  shared_kept there = IsReached.start shared_name (inl refl)
+  pub shared_kept : Kept shared_name
+  shared_kept there = IsReached.start shared_name (roots shared_name (inl refl))
 
   each_flat : (f : MutatorState → List Value) (states : List MutatorState) → ((m : MutatorState) → Contains states m → All (Names Kept) (f m)) →
       All (Names Kept) (flat_map f states)
@@ -69,14 +71,14 @@ module _ (S : World) (is : IsWorld S) where
       (held_fields shared_name shared_kept (Some S.shared) refl))
 
   -- marked names are reached so
-  abbrev AreStrong : State → Type 0
-  AreStrong s = (n : Name) → Contains s.marked n → Strong n
+  abbrev pub AreStrong : State → Type 0
+  AreStrong s = (n : Name) → Contains s.marked n → Reached n
 
-  strong_name : (s : State) (name : Name) → s.snapshot ≡ S → Kept name → AreStrong s → AreStrong (mark_name s name)
+  pub strong_name : (s : State) (name : Name) → s.snapshot ≡ S → Kept name → AreStrong s → AreStrong (mark_name s name)
   strong_name s name same kept h = mark_cases AreStrong s name
       (λ new n c. elim (Contains-append_cases s.marked (name ∷ []) n c) [
         | inl old ↦ h n old
-        | inr last ↦ subst Strong (one_is name n last) (kept (rw same at (and_parts (is_some (node_of s.snapshot name)) (not (is_listed name s.marked)) new).0))
+        | inr last ↦ subst Reached (one_is name n last) (kept (rw same at (and_parts (is_some (node_of s.snapshot name)) (not (is_listed name s.marked)) new).0))
       ])
       (λ old. h)
 
@@ -89,19 +91,17 @@ module _ (S : World) (is : IsWorld S) where
       same)) (All-tail (Names Kept) (value.Ref name) values kept)
       (strong_name s name same (All-head (Names Kept) (value.Ref name) values kept) h)
 
-  -- a state of the machine so far, in which nothing was ever owed
-  pub record IsStrongSo (s : State) : Type 0 where
+  -- a state of the machine so far
+  pub record IsReachedSo (s : State) : Type 0 where
     pub facts : Facts s
     pub world : IsWorld s.world
     pub snapshot_is : s.snapshot ≡ S
     pub holds : CoversReach Kept s.world
-    pub none_owed : (m : ℕ) → names_of s.owed m ≡ []
-    pub none_pushed : (m : ℕ) → names_of s.pushed m ≡ []
     pub strong : AreStrong s
 
   -- names that a scan reads in the snapshot are reached so
-  module _ (s : State) (h : IsStrongSo s) (entry : Entry) (waits : Contains s.queue entry) where
-    entry_strong : Strong entry.name
+  module _ (s : State) (h : IsReachedSo s) (entry : Entry) (waits : Contains s.queue entry) where
+    entry_strong : Reached entry.name
     entry_strong = h.strong entry.name (h.facts.base.queued entry waits)
 
     entry_there : IsSome (node_of S entry.name)
@@ -144,56 +144,108 @@ module _ (S : World) (is : IsWorld S) where
   strong_advanced s [] h = h
   strong_advanced s (entry ∷ rest) h = h
 
-  strong_scan : (s : State) (queue : List Entry) → IsStrongSo s → s.queue ≡ queue → AreStrong (after_scan s queue)
+  strong_scan : (s : State) (queue : List Entry) → IsReachedSo s → s.queue ≡ queue → AreStrong (after_scan s queue)
   strong_scan s [] h e = h.strong
   strong_scan s (entry ∷ rest) h e =
       let v : Option Value = read_at (node_of s.world entry.name) entry.position in
       let t : State = mark_read s v in
       strong_advanced t t.queue (strong_read s h entry (subst (λ (l : List Entry). Contains l entry) (sym e) (contains_head entry rest)) v refl)
 
-  -- each event keeps it, if its command owes nothing
-  strong_command : (s next : State) (m : ℕ) (c : Command) (answer : Reply) → IsStrongSo s → Passes s (event.Command m c answer) true next →
-      next.is_closed ≡ false → owed_by s.world m c ≡ [] → IsStrongSo next
-  strong_command s next m c answer h p running none =
-      let kept : Facts next × IsWorld next.world = event_keeps_facts s next (event.Command m c answer) h.facts h.world p running in
+  -- a command that opens only such names keeps it, and owes only such names
+  reached_command : (s : State) (m : ℕ) (c : Command) (answer : Reply) → IsReachedSo s → (next : State) →
+      Passes s (event.Command m c answer) true next → next.is_closed ≡ false → ((n : Name) → Contains (opened_by s.world m c) n → Kept n) →
+      RespectsBarrier Kept s.world (step s.world m c).0 (values_owed s.world m c)
+  reached_command s m c answer h next p running may =
       let can : CanApply s.world m c = p.0.1 in
       let own = not_shared s.world m h.world can.mutator in
       let name : Name = next_name (state_of s.world m) m in
       let fresh : Kept name = λ there. absurd (next_absent s m h.facts.base own (subst (λ (w : World). IsSome (node_of w name)) (sym h.snapshot_is) there)) in
-      let moves = all_moves Kept s.world m c can.mutator own shared_kept fresh (λ n d.
-      absurd (nothing_in n (subst (λ (l : List Name). Contains l n) none (opened_owed s.world m c n d)))) h.holds in
-      let place : m < length s.owed = let a = h.facts.base.owed_lists in let b = can.mutator in omega arith in
+      all_moves Kept s.world m c can.mutator own shared_kept fresh may h.holds
+
+  -- an event that is no command leaves world and snapshot
+  pub reached_on : (s next : State) (e : Event) → IsReachedSo s → Passes s e true next → next.is_closed ≡ false → next.world ≡ s.world →
+      next.snapshot ≡ s.snapshot → AreStrong next → IsReachedSo next
+  reached_on s next e h p running world_is same strong =
+      let kept : Facts next × IsWorld next.world = event_keeps_facts s next e h.facts h.world p running in
+      record {
+        facts = kept.0;
+        world = kept.1;
+        snapshot_is = same ∙ h.snapshot_is;
+        holds = subst (λ (w : World). CoversReach Kept w) (sym world_is) h.holds;
+        strong = strong;
+      }
+
+  pub after_moves : (s next : State) (m : ℕ) (c : Command) (answer : Reply) → IsReachedSo s → Passes s (event.Command m c answer) true next →
+      next.is_closed ≡ false → ((n : Name) → Contains (opened_by s.world m c) n → Kept n) →
+      IsReachedSo next × All (Names Kept) (values_owed s.world m c)
+  after_moves s next m c answer h p running may =
+      let kept : Facts next × IsWorld next.world = event_keeps_facts s next (event.Command m c answer) h.facts h.world p running in
+      let moves = reached_command s m c answer h next p running may in (
+        record {
+          facts = kept.0;
+          world = kept.1;
+          snapshot_is = ap (λ (x : State). x.snapshot) p.1 ∙ h.snapshot_is;
+          holds = subst (λ (x : State). CoversReach Kept x.world) (sym p.1) moves.holds;
+          strong = subst AreStrong (sym p.1) h.strong;
+        },
+        moves.owes,
+      )
+
+  pub reached_scanned : (s next : State) → IsReachedSo s → Passes s event.Scan true next → next.is_closed ≡ false → IsReachedSo next
+  reached_scanned s next h p running =
+      reached_on s next event.Scan h p running (ap (λ (x : State). x.world) p.1 ∙ world_scanned s s.queue)
+      (ap (λ (x : State). x.snapshot) p.1 ∙ (leaves_scan s s.queue).snapshot) (subst AreStrong (sym p.1) (strong_scan s s.queue h refl))
+
+  -- as marking begins
+  pub reached_opening : IsReachedSo (opening S)
+  reached_opening =
+      let b : IsBegun S (opening S) = begun S in
+      record {
+        facts = opening_has_facts S is;
+        world = subst IsWorld (sym b.world_is) is;
+        snapshot_is = ((snapshot_theorem S is [] [] (opening S) (refl, refl)).before b.open_yet).snapshot;
+        holds = subst (λ (w : World). CoversReach Kept w) (sym b.world_is) snapshot_holds;
+        strong = strong_values (first_state S) (root_values S) refl roots_kept (λ n c.
+            subst Reached (one_is shared_name n c) (IsReached.start shared_name (roots shared_name (inl refl))));
+      }
+
+module _ (S : World) (is : IsWorld S) where
+  abbrev pub Strong : Name → Type 0
+  Strong n = IsReached S (IsRoot S) n
+
+  abbrev itself : (n : Name) → IsRoot S n → IsRoot S n
+  itself n r = r
+
+  -- a state of the machine so far, in which nothing was ever owed
+  pub record IsStrongSo (s : State) : Type 0 where
+    pub so : IsReachedSo S is (IsRoot S) itself s
+    pub none_owed : (m : ℕ) → names_of s.owed m ≡ []
+    pub none_pushed : (m : ℕ) → names_of s.pushed m ≡ []
+
+  -- each event keeps it, if its command owes nothing
+  strong_command : (s next : State) (m : ℕ) (c : Command) (answer : Reply) → IsStrongSo s → Passes s (event.Command m c answer) true next →
+      next.is_closed ≡ false → owed_by s.world m c ≡ [] → IsStrongSo next
+  strong_command s next m c answer h p running none =
+      let moved = after_moves S is (IsRoot S) itself s next m c answer h.so p running (λ n d.
+      absurd (nothing_in n (subst (λ (l : List Name). Contains l n) none (opened_owed s.world m c n d)))) in
+      let can : CanApply s.world m c = p.0.1 in
+      let place : m < length s.owed = let a = h.so.facts.base.owed_lists in let b = can.mutator in omega arith in
       let empty : names_of s.owed m ++ owed_by s.world m c ≡ [] = ap (λ (l : List Name). l ++ owed_by s.world m c) (h.none_owed m) ∙ none in
-      subst IsStrongSo (sym p.1) (record {
-        facts = subst Facts p.1 kept.0;
-        world = subst (λ (t : State). IsWorld t.world) p.1 kept.1;
-        snapshot_is = h.snapshot_is;
-        holds = moves.holds;
-        none_owed = each_names (λ (l : List Name). l ≡ []) s.owed m (names_of s.owed m ++ owed_by s.world m c) place empty h.none_owed;
-        none_pushed = h.none_pushed;
-        strong = h.strong;
-      })
+      record {
+        so = moved.0;
+        none_owed = subst (λ (x : State). (k : ℕ) → names_of x.owed k ≡ []) (sym p.1)
+            (each_names (λ (l : List Name). l ≡ []) s.owed m (names_of s.owed m ++ owed_by s.world m c) place empty h.none_owed);
+        none_pushed = subst (λ (x : State). (k : ℕ) → names_of x.pushed k ≡ []) (sym p.1) h.none_pushed;
+      }
 
   strong_scanned : (s next : State) → IsStrongSo s → Passes s event.Scan true next → next.is_closed ≡ false → IsStrongSo next
   strong_scanned s next h p running =
-      let kept : Facts next × IsWorld next.world = event_keeps_facts s next event.Scan h.facts h.world p running in
       let left : Leaves s (after_scan s s.queue) = leaves_scan s s.queue in
-      subst IsStrongSo (sym p.1) (record {
-        facts = subst Facts p.1 kept.0;
-        world = subst (λ (t : State). IsWorld t.world) p.1 kept.1;
-        snapshot_is = left.snapshot ∙ h.snapshot_is;
-        holds = subst (λ (w : World). CoversReach Kept w) (sym (world_scanned s s.queue)) h.holds;
-        none_owed = λ m. ap (λ (l : List (List Name)). names_of l m) (owed_scan s s.queue) ∙ h.none_owed m;
-        none_pushed = λ m. ap (λ (l : List (List Name)). names_of l m) left.pushed ∙ h.none_pushed m;
-        strong = strong_scan s s.queue h refl;
-      })
-
-  open_before : (s : State) (es : List Event) (rows : List Row) (t : State) → Runs s es rows t → t.is_closed ≡ false → s.is_closed ≡ false
-  open_before s es rows t h running = by_test s.is_closed refl
-    where
-      by_test : (b : Bool) → s.is_closed ≡ b → s.is_closed ≡ false
-      by_test true e = absurd (let bad : true ≡ false = sym (stays_closed s es rows t h e) ∙ running in cc)
-      by_test false e = e
+      record {
+        so = reached_scanned S is (IsRoot S) itself s next h.so p running;
+        none_owed = λ m. ap (λ (x : State). names_of x.owed m) p.1 ∙ ap (λ (l : List (List Name)). names_of l m) (owed_scan s s.queue) ∙ h.none_owed m;
+        none_pushed = λ m. ap (λ (x : State). names_of x.pushed m) p.1 ∙ ap (λ (l : List (List Name)). names_of l m) left.pushed ∙ h.none_pushed m;
+      }
 
   -- a run whose commands owe nothing keeps it
   strong_runs : (s : State) (es : List Event) (rows : List Row) (t : State) → Runs s es rows t → t.is_closed ≡ false →
@@ -226,14 +278,9 @@ module _ (S : World) (is : IsWorld S) where
   strong_opening =
       let b : IsBegun S (opening S) = begun S in
       record {
-        facts = opening_has_facts S is;
-        world = subst IsWorld (sym b.world_is) is;
-        snapshot_is = ((snapshot_theorem S is [] [] (opening S) (refl, refl)).before b.open_yet).snapshot;
-        holds = subst (λ (w : World). CoversReach Kept w) (sym b.world_is) snapshot_holds;
+        so = reached_opening S is (IsRoot S) itself;
         none_owed = λ m. ap (λ (l : List (List Name)). names_of l m) b.owed_is ∙ none_at_first (length S.mutators) m;
         none_pushed = λ m. ap (λ (l : List (List Name)). names_of l m) b.pushed_is ∙ none_at_first (length S.mutators) m;
-        strong = strong_values (first_state S) (root_values S) refl roots_kept (λ n c.
-            subst Strong (one_is shared_name n c) (IsReached.start shared_name (inl refl)));
       }
 
   -- if nothing waits, exactly the names reached so are marked
@@ -245,14 +292,14 @@ module _ (S : World) (is : IsWorld S) where
       owed_along S rows ≡ [] → core.queue ≡ [] → IsExactlyStrong core
   exactly_strong es rows core runs running none empty =
       let so : IsStrongSo core = strong_runs (opening S) es rows core runs running (rw (opening_world S) none) strong_opening in
-      record { sound = so.strong; complete = all_marked so }
+      record { sound = so.so.strong; complete = all_marked so }
     where
       all_marked : IsStrongSo core → (n : Name) → Strong n → Contains core.marked n
-      all_marked so n (IsReached.start _ root) = so.facts.roots n (subst (λ (w : World). IsRoot w n) (sym so.snapshot_is) root)
+      all_marked so n (IsReached.start _ root) = so.so.facts.roots n (subst (λ (w : World). IsRoot w n) (sym so.so.snapshot_is) root)
       all_marked so n (IsReached.field from _ reached refers) =
-          let st = stands core.snapshot from n (subst (λ (w : World). RefersTo w from n) (sym so.snapshot_is) refers) in
+          let st = stands core.snapshot from n (subst (λ (w : World). RefersTo w from n) (sym so.so.snapshot_is) refers) in
           let here : Contains core.marked from = all_marked so from reached in
-          elim (so.facts.kept from st.0 n st.1) [
+          elim (so.so.facts.kept from st.0 n st.1) [
             | inl safe ↦ by_safe safe
             | inr ahead ↦ by_ahead st.0 here ahead.1
           ]

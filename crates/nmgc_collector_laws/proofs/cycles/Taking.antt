@@ -2,6 +2,7 @@
 use Rattle.nmgc_collector_laws.proofs.Vocabulary.{eqb, eq-eqb, eqb-true, ◌≡◌, ◌≢◌, ◌+◌, ◌<◌, ◌≤◌, ℕ, suc, Bool, true, false, not, ◌&&◌, cond, List, [], ◌∷◌, ◌++◌, length, set, refl, sym, ap, subst, ◌∙◌, arith, append-nil, length-set, inl, inr, Some, Contains, slice_get, is_some, filter, flat_map, cases_eq, and_cases, not-false, Contains-append_left, Name, World, IsWorld, node_of, is_same_name, shared_name, contains_head, contains_tail, contains_cases, nothing_in, Event, Facts, AreEmpty, after_take, is_pushed_in, Runs, State, names_of, is_listed, is_new, entry_of, mark_name, opening, names_same, names_other, listed_from, tested_same, mark_cases, facts_kept, snapshot_theorem, Place, Marks, marks_of, name_at, with_name, Opening, AreAt, AreRemembered, IsCoreOf, Cycle, with_places, runs_then, marks_if}
 use Rattle.nmgc_snapshot_laws.specs.declared.event.Event.TheVariants as event
 use Rattle.nmgc_collector_laws.proofs.cycles.Pushing.{all_empty}
+use Rattle.nmgc_snapshot_laws.specs.laws.MarkedOnce.{marked_runs}
 
 -- names are marked one after another, if they are in the snapshot and weren't marked
 abbrev pub with_names : World → Marks → List Name → Marks
@@ -259,6 +260,7 @@ machine_takes c w core places entries world m many own =
           open_yet = h.only.is_closed ∙ m.open_yet;
           world_is = h.only.world ∙ m.world_is;
           nothing_owed = subst AreEmpty (sym h.only.owed) m.nothing_owed;
+          handed = λ name owed there. marked_runs core h.events [] t h.runs (h.only.is_closed ∙ m.open_yet) name (m.handed name owed there);
         };
         none_pushed = all_empty t.pushed (λ k lt. h.none k (omega arith) (omega arith));
         marks = h.marks;

@@ -1,5 +1,5 @@
 -- A cycle is closed at a stop, or goes on, as a run allows it.
-use Rattle.nmgc_cycle.proofs.Vocabulary.{ℕ, ◌≡◌, List, Option, Some, None, refl, sym, ap, subst, ◌∙◌, inl, inr, IsSome, Place, ClosesOrWaits, HoldsInCycle, IsPacedAtStop, CollectorSeen, State, Progress, idle, marking, sweeping, phase_of, Cycle, Script, Collector, Doing, Closes, HasClosed, seen, phase_in, work_in, words_in, IsInLimits, StandsWithin, StandsAt, IsPacedWithin, FinishingLeads, ClosingLeads}
+use Rattle.nmgc_cycle.proofs.Vocabulary.{false, ℕ, ◌≡◌, List, Option, Some, None, refl, sym, ap, subst, ◌∙◌, inl, inr, IsSome, Place, ClosesOrWaits, HoldsInCycle, IsPacedAtStop, CollectorSeen, State, Progress, idle, marking, sweeping, phase_of, Cycle, Script, Collector, Doing, Closes, HasClosed, seen, phase_in, work_in, words_in, IsInLimits, StandsWithin, StandsAt, IsPacedWithin, FinishingLeads, ClosingLeads}
 use Rattle.nmgc_journal.specs.declared.report.Phase.TheVariants as phase
 use Rattle.nmgc_cycle.specs.declared.progress.Progress.TheVariants as doing
 
@@ -59,7 +59,10 @@ module _ (law : FinishingLeads) (script : Script) (old new : Collector) (s : Sta
     | inl x ↦
         let t = law script old new s k m x.1.0 limits h is at x.0 x.1.1 closed x.1.2 in
         (t.0, subst (λ (q : Progress). ClosesOrWaits script.config.quota q s t.0) (sym is) (inr (t.1, t.2)), t.3)
-    | inr x ↦ stays (doing.Marking m) (marking k) at is (inl refl) (λ r marks paced. paced.goes_on (ap (λ (p : Doing). (work_in p).empty) at ∙ x.0)) x.1
+    | inr x ↦
+        let left : (seen old).work.empty ≡ false = ap (λ (p : Doing). (work_in p).empty) at ∙ x.0 in
+        let paced = subst (λ (p : Progress). HoldsInCycle (λ (r : Cycle). IsPacedWithin script.config.quota r s (seen old)) p s (seen old) h.heap.places) is h.cycle in
+        stays (doing.Marking m) (marking k) at is (inl (refl, paced.1.waits left)) (λ r marks own. own.goes_on left) x.1
   ]
   by_case (doing.Marking m) (sweeping k since) at is e step = absurd (let bad : phase.Marking ≡ phase.Sweeping = e in cc)
   by_case (doing.Sweeping w) idle at is e step = absurd (let bad : phase.Sweeping ≡ phase.Idle = e in cc)

@@ -2,6 +2,7 @@
 use Rattle.nmgc_cycle.proofs.Vocabulary.{ℕ, ◌≡◌, List, length, map, refl, sym, ap, subst, ◌∙◌, Some, Global, ◌≤◌, arith, All, slice_get, Vec, length-map, slice_get_within, Layout, Nursery, StandsFor, Segments, IsSegments, World, map_item, AreEmpty, MutatorEnd, IsFor, Mutator, numbers, Receiver, Script, AreNurseries, EachMutator, HoldsInCycle, IsEmptied, IsMarking, weak_count, HoldsAtStop, HasAllRegisters, HasRoomToMark, MarkerSeen, MutatorSeen, end_of, ends_of, nurseries_of, State, Progress, idle, marking, sweeping, phase_of, plan_of, layout_of, Cycle, AddIsMarking, ClosingIsSoon, ClosingIsPaced, HasLeft, PaceAtStop, MarkedWait, LeftStays, HaveEntries, Collector, Marking, Doing, AddsTo, CanAdd, HasAdded, HasTaken, remembered_by, IsLined, HasForgotten, HaveForgotten, IsWellFormed, IsOwn, Sweeps, seen, seen_mutator, marker_in, phase_in, StandsPromoted, StandsWithin, IsPacedPromoted, IsPacedWithin, AddingLeads, item}
 use Rattle.nmgc_journal.specs.declared.report.Phase.TheVariants as phase
 use Rattle.nmgc_cycle.specs.declared.progress.Progress.TheVariants as doing
+use Rattle.nmgc_collector_laws.specs.Closes.{WaitingIsPaced}
 use Rattle.nmgc_cycle.proofs.{lists.Mapped.same_maps, cycles.Pacing.paced_within, lists.RootLists.seen_at}
 
 -- the laws that adding uses
@@ -9,6 +10,7 @@ pub record HasAddingLaws : Type 0 where
   pub marking : AddIsMarking
   pub soon : ClosingIsSoon
   pub paced : ClosingIsPaced
+  pub waiting : WaitingIsPaced
   pub pace : PaceAtStop
   pub waits : MarkedWait
   pub left : LeftStays
@@ -222,7 +224,7 @@ module _ (laws : HasAddingLaws) (script : Script) (was : Collector) (r : State) 
       })) inbox mutators inbox_is lines forgot refl added.marked.layout sound stands n mutator e).entries)
 
   paced : IsPacedWithin script.config.quota k s (seen c)
-  paced = paced_within laws.soon laws.paced laws.pace script.config.quota k s (seen old) (seen c) s.allocation h.heap.places h.cycle.0.core
+  paced = paced_within laws.soon laws.paced laws.waiting laws.pace script.config.quota k s (seen old) (seen c) s.allocation h.heap.places h.cycle.0.core
       h.sound.cycle.0 h.cycle.0.machine h.cycle.0.tied h.cycle.1.later h.cycle.1.paced added.marked.scanned.pace added.marked.scanned.grows refl
 
   marked : StandsWithin script c s

@@ -6,7 +6,7 @@ same_number s t e = ap (λ (x : State). x.number) e
 
 closing_number : (quota : ℕ) (p : Progress) (s t : State) → ClosesOrWaits quota p s t → t.number ≡ s.number
 closing_number quota idle s t e = same_number s t e
-closing_number quota (marking c) s t (inl e) = same_number s t e
+closing_number quota (marking c) s t (inl (e, may)) = same_number s t e
 closing_number quota (marking c) s t (inr h) = ap (λ (x : State). x.number) h.0.rest
 closing_number quota (sweeping c closed) s t e = same_number s t e
 

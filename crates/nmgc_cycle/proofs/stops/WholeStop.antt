@@ -11,7 +11,7 @@ keeps_itself s t e = record { number = ap (λ (x : State). x.number) e; left = a
 
 pub closing_keeps : (quota : ℕ) (p : Progress) (s t : State) → ClosesOrWaits quota p s t → KeepsOn s t × (t.allocation ≡ s.allocation)
 closing_keeps quota idle s t e = (keeps_itself s t e, ap (λ (x : State). x.allocation) e)
-closing_keeps quota (marking c) s t (inl e) = (keeps_itself s t e, ap (λ (x : State). x.allocation) e)
+closing_keeps quota (marking c) s t (inl (e, may)) = (keeps_itself s t e, ap (λ (x : State). x.allocation) e)
 closing_keeps quota (marking c) s t (inr h) = (
   record { number = ap (λ (x : State). x.number) h.0.rest; left = ap (λ (x : State). x.left) h.0.rest },
   ap (λ (x : State). x.allocation) h.0.rest,

@@ -1,6 +1,6 @@
 //! Heaps of plain words, whose objects a test makes one by one, and their promotions.
 ghost use Rattle.std.specs.Prelude.{◌≡◌, IfOk};
-ghost use Rattle.nmgc_object.specs.Places.{IsLayout};
+ghost use Rattle.nmgc_object.specs.Layouts.{IsLayout};
 ghost use Rattle.nmgc_collector_laws.specs.Worked.{nurseries_of};
 
 use super::walk::{

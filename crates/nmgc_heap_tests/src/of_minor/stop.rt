@@ -1,6 +1,6 @@
 //! A promotion at a stop, as the run does it: a law says which world the words represent, without a walk.
 ghost use Rattle.std.specs.Prelude.{◌≡◌, ◌≤◌, [], ◌∷◌, IfOk, IsTrue, length};
-ghost use Rattle.nmgc_object.specs.Places.{IsLayout};
+ghost use Rattle.nmgc_object.specs.Layouts.{IsLayout};
 ghost use Rattle.nmgc_mutator.specs.declared.mutator.Mutator.{Mutator as MutatorSeen};
 ghost use Rattle.nmgc_alloc.specs.Segments.{all_free};
 ghost use Rattle.nmgc_heap_spec.specs.{Places.HasZeros, Samples.small_layout};

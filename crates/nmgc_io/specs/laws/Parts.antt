@@ -1,7 +1,7 @@
 -- A text is cut into lines and a line into tokens, and the tokens of a line spell it again.
 use Rattle.std.proofs.{Common.◌≡◌, Common.◌≢◌, Common.◌<◌, Common.ℕ, Common.List, Common.[], Common.◌∷◌, Common.◌++◌, Common.length, Common.refl, Common.sym, Common.ap, Common.◌∙◌, Common.arith, Common.inl, Common.inr, lemmas.Bool.eq-eqb, lemmas.Bool.ne_eqb, lemmas.Bool.Decides.eqb_tells, lemmas.List.append-nil, lemmas.List.Elements.recursion_from_All}
 use Rattle.std.specs.{Prelude.All, Prelude.◌==◌, Prelude.if◌then◌else◌, List.AllByRecursion}
-use Rattle.nmgc_io.specs.Text.{onto_first, lines_of, tokens_of, spaced, after_spaces}
+use Rattle.nmgc_io.specs.{Text.onto_first, Text.lines_of, Text.tokens_of, Text.spaced, Spaced.after_spaces}
 
 -- f cuts at a byte
 pub record CutsAt (separator : ℕ) (f : List ℕ → List (List ℕ)) : Type 0 where

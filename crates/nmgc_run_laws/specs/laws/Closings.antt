@@ -52,7 +52,7 @@ none_known quota rows none = subst (λ (known : List CycleRow). All (IsClosedSoo
 
 closes_soon : (quota : ℕ) (p : Progress) (s t : State) → WasSoon quota p → s.progress ≡ p → ClosesOrWaits quota p s t → WasSoon quota t.progress
 closes_soon quota idle s t h e same = stays_soon quota idle s t e same h
-closes_soon quota (marking c) s t h e (inl same) = stays_soon quota (marking c) s t e same h
+closes_soon quota (marking c) s t h e (inl (same, may)) = stays_soon quota (marking c) s t e same h
 closes_soon quota (marking c) s t h e (inr closes) =
     same_soon quota (sweeping c s.number) t (ap (λ (x : State). x.progress) closes.0.rest) closes.1.0
 closes_soon quota (sweeping c closed) s t h e same = stays_soon quota (sweeping c closed) s t e same h

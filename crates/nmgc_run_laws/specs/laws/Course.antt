@@ -163,7 +163,7 @@ none_retired a none number there is =
 closes_course : (quota : ℕ) (p : Progress) (s t : State) → IsInCourse p s.number s.begun s.allocation → s.progress ≡ p → ClosesOrWaits quota p s t →
     IsStateInCourse t
 closes_course quota idle s t h e same = subst IsStateInCourse (sym same) (subst (λ (p : Progress). IsInCourse p s.number s.begun s.allocation) (sym e) h)
-closes_course quota (marking c) s t h e (inl same) = subst IsStateInCourse (sym same) (rw e h)
+closes_course quota (marking c) s t h e (inl (same, may)) = subst IsStateInCourse (sym same) (rw e h)
 closes_course quota (marking c) s t h e (inr closes) = subst IsStateInCourse (sym closes.0.rest) (h.0, h.1.as_noted)
 closes_course quota (sweeping c number) s t h e same = subst IsStateInCourse (sym same) (rw e h)
 

@@ -8,7 +8,7 @@ use Rattle.nmgc_journal.specs.{declared.report.CycleRow.CycleRow, declared.repor
 use Rattle.nmgc_limits.specs.Limits.{most_script_bytes}
 use Rattle.nmgc_script.specs.{Limits.FitsScript, Limits.HasFewCommands, declared.script.Script.Script}
 use Rattle.nmgc_stop_spec.specs.Cycle.{IsKeptIn, Cycle}
-use Rattle.nmgc_run_spec.specs.{Crowded.StopInRun, Crowded.opening_stop, Crowded.next_stop, Crowded.last_after, Crowded.last_stop, Crowded.IsKeptOf, Crowded.IsCrowded, Crowded.LeavesHeapFull, Crowded.IsHeapFull, Crowded.IsRunOf, Lawful.IsLawfulFor, Run.Run, Run.Turn, Run.IsRun, Run.AreTurns, Run.state_after, Run.last_state, Slice.has_left, Slice.program_of, State.State, State.Plan, State.Progress, State.idle, State.marking, State.sweeping, State.free_count, State.reserve_of, State.cycle_started, State.next_cycle, State.plan_of, Stop.EndsOrWaits, Stop.Finishes, Stop.DoesFullCycle, Stop.Proceeds, Stop.with_all_retired, Stop.is_short, Stop.is_done, Stop.answer_of, Stop.SweepsRest}
+use Rattle.nmgc_run_spec.specs.{Crowded.StopInRun, Crowded.opening_stop, Crowded.next_stop, Crowded.last_after, Crowded.last_stop, Crowded.IsKeptOf, Crowded.IsCrowded, Crowded.LeavesHeapFull, Crowded.IsHeapFull, Crowded.IsRunOf, Lawful.IsLawfulFor, Run.Run, Run.Turn, Run.IsRun, Run.AreTurns, Run.state_after, Run.last_state, Slice.has_left, AfterRound.program_of, State.State, State.Plan, State.Progress, State.idle, State.marking, State.sweeping, State.free_count, State.reserve_of, State.cycle_started, State.next_cycle, State.plan_of, Stop.EndsOrWaits, Stop.Finishes, Stop.DoesFullCycle, Stop.Proceeds, Stop.with_all_retired, Stop.is_short, Stop.is_done, Stop.answer_of, Stop.SweepsRest}
 use Rattle.nmgc_run_laws.specs.{Statements.LawfulAreOfRuns, Sound.IsRunnable, laws.CycleCounts.free_kept, laws.FullHeaps.full_crowded, laws.FullHeaps.full_short, laws.FullHeaps.kept_last, laws.FullHeaps.full_heap_is_crowded, laws.Limits.scripts_have_good_plans, laws.Programs.HasPrograms, laws.Runs.round_holds, laws.Runs.turn_holds, laws.Runs.opening_worked, laws.Runs.opening_holds, laws.States.IsSoundHere, laws.States.Worked, laws.States.lefts, laws.Stops.stop_holds}
 
 -- the objects that a full cycle keeps

@@ -71,7 +71,7 @@ same_counted n s t p b h = ap (λ (x : Progress). n + in_progress x) p ∙ h ∙
 
 closes_counted : (n quota : ℕ) (p : Progress) (s t : State) → s.progress ≡ p → ClosesOrWaits quota p s t → Counted n s → Counted n t
 closes_counted n quota idle s t e same h = same_counted n s t (ap (λ (x : State). x.progress) same) (ap (λ (x : State). x.begun) same) h
-closes_counted n quota (marking c) s t e (inl same) h = same_counted n s t (ap (λ (x : State). x.progress) same) (ap (λ (x : State). x.begun) same) h
+closes_counted n quota (marking c) s t e (inl (same, may)) h = same_counted n s t (ap (λ (x : State). x.progress) same) (ap (λ (x : State). x.begun) same) h
 closes_counted n quota (marking c) s t e (inr closes) h =
     let new : in_progress t.progress ≡ 1 = ap (λ (x : State). in_progress x.progress) closes.0.rest in
     let old : in_progress s.progress ≡ 1 = ap in_progress e in

@@ -7,7 +7,7 @@ same_left s t e = ap (λ (x : State). x.left) e
 
 closing_left : (quota : ℕ) (p : Progress) (s t : State) → ClosesOrWaits quota p s t → t.left ≡ s.left
 closing_left quota idle s t e = same_left s t e
-closing_left quota (marking c) s t (inl e) = same_left s t e
+closing_left quota (marking c) s t (inl (e, may)) = same_left s t e
 closing_left quota (marking c) s t (inr h) = ap (λ (x : State). x.left) h.0.rest
 closing_left quota (sweeping c closed) s t e = same_left s t e
 

@@ -16,7 +16,7 @@ close_within plan c s t holds closes h = subst (Within plan) (sym closes.rest) (
 
 closes_within : (plan : Plan) (quota : ℕ) (p : Progress) (s t : State) → IsSoundHere plan s → ClosesOrWaits quota p s t → Within plan s → Within plan t
 closes_within plan quota idle s t holds same h = same_within plan s t same h
-closes_within plan quota (marking c) s t holds (inl same) h = same_within plan s t same h
+closes_within plan quota (marking c) s t holds (inl (same, may)) h = same_within plan s t same h
 closes_within plan quota (marking c) s t holds (inr closes) h = close_within plan c s t holds closes.0 h
 closes_within plan quota (sweeping c number) s t holds same h = same_within plan s t same h
 

@@ -86,7 +86,7 @@ close_holds plan c s t h closes =
 closes_or_waits : (plan : Plan) (quota : ℕ) (p : Progress) (s t : State) → IsSoundWith plan (lefts s) s.world s.allocation p → s.progress ≡ p →
     ClosesOrWaits quota p s t → IsSoundHere plan t
 closes_or_waits plan quota idle s t h e same = subst (IsSoundHere plan) (sym same) (rw e h)
-closes_or_waits plan quota (marking c) s t h e (inl same) = subst (IsSoundHere plan) (sym same) (rw e h)
+closes_or_waits plan quota (marking c) s t h e (inl (same, may)) = subst (IsSoundHere plan) (sym same) (rw e h)
 closes_or_waits plan quota (marking c) s t h e (inr closes) = close_holds plan c s t h closes.0
 closes_or_waits plan quota (sweeping c number) s t h e same =
     subst (IsSoundHere plan) (sym same) (subst (λ (p : Progress). IsSoundWith plan (lefts s) s.world s.allocation p) (sym e) h)

@@ -2,7 +2,7 @@
 //!
 //! Their gate gives up after a long spin, and notes it, so markers on one thread fail the test and don't hang.
 ghost use Rattle.std.specs.Prelude.{◌≤◌, length, IfOk};
-ghost use Rattle.nmgc_cli.specs.Answer.{IsOfScript};
+ghost use Rattle.nmgc_cli.specs.Parts.{IsOfScript};
 ghost use Rattle.nmgc_limits.specs.Limits.{most_script_bytes};
 
 use nmgc_cli::answer::Refusal;

@@ -144,7 +144,7 @@ module _ (s : State) (f : Facts s) (w : IsWorld s.world) (m : ℕ) (c : Command)
     | inr ne ↦ rw (names_other s.owed m k (names_of s.owed m ++ owed_by s.world m c) ne) h
   ]
 
-  still_safe : (name : Name) → IsSafe s name → IsSafe next name
+  pub still_safe : (name : Name) → IsSafe s name → IsSafe next name
   still_safe name (marked h) = marked h
   still_safe name (owed k h) = owed k (more_owed k name h)
   still_safe name (pushed k h) = pushed k h
@@ -154,7 +154,7 @@ module _ (s : State) (f : Facts s) (w : IsWorld s.world) (m : ℕ) (c : Command)
   still_ahead name i (queued entry h e le) = queued entry h e le
 
   -- the names that the command owes are safe
-  owed_safe : (name : Name) → Contains (owed_by s.world m c) name → IsSafe next name
+  pub owed_safe : (name : Name) → Contains (owed_by s.world m c) name → IsSafe next name
   owed_safe name h = owed m (rw (names_same s.owed m (names_of s.owed m ++
       owed_by s.world m c) owed_place) (Contains-append_right (names_of s.owed m) (owed_by s.world m c) name h))
 

@@ -1,7 +1,7 @@
 -- A push and a take keep the facts: a name on its way from the mutator to the collector is safe all along.
 use Rattle.std.specs.Prelude.{◌≡◌, ◌<◌, ◌∷◌, ◌++◌, ◌⊎◌, ◌&&◌}
 use Rattle.nmgc_snapshot_laws.specs.laws.Vocabulary.{ℕ, List, [], length, set, refl, sym, subst, ◌∙◌, arith, length-set, Bool, true, false, not, cond, inl, inr, IsSome, All, Contains, is_some, All-head, All-tail, All-cons, All-nil, All-append, Contains-append_left, Contains-append_right, cond_both, cases_eq, and_cases, not-false, Name, node_of, is_same_name, shared_name, State, names_of, mark_name, with_mark, is_new, pushed_of, after_push, after_take, contains_one, contains_cases, MayHold, IsSafe, IsAhead, Kept, Base, Facts, owed, pushed, queued, marked, unmarked}
-use Rattle.nmgc_snapshot_laws.specs.laws.{Listed.tested_same, Listed.names_same, Listed.names_other, Listed.each_names, Listed.has_place, Lives.target_there, Lives.part_there, Lives.refers, Marking.mark_facts, Marking.marked_then}
+use Rattle.nmgc_snapshot_laws.specs.laws.{Marking.safe_then, Listed.tested_same, Listed.names_same, Listed.names_other, Listed.each_names, Listed.has_place, Lives.target_there, Lives.part_there, Lives.refers, Marking.mark_facts, Marking.marked_then}
 
 -- a name of the snapshot is pushed, or it is g, which is marked
 pub push_cases : (s : State) (name : Name) → IsSome (node_of s.snapshot name) → Contains (pushed_of s name) name ⊎ (name ≡ shared_name)
@@ -172,6 +172,19 @@ take_first s f m name rest first =
         Facts (cond b (with_mark (dropped s m rest) name) (dropped s m rest))
     by_test true e g done = drop_facts (with_mark s name) g m name rest first done
     by_test false e g done = drop_facts s g m name rest first done
+
+-- a take leaves each name safe
+pub take_safe : (s : State) → Facts s → (m : ℕ) (name : Name) (rest : List Name) → names_of s.pushed m ≡ name ∷ rest → (target : Name) →
+    IsSome (node_of s.snapshot target) → IsSafe s target → IsSafe (mark_name (dropped s m rest) name) target
+take_safe s f m name rest first target there safe =
+    let may : MayHold s name = All-head (MayHold s) name rest (subst (All (MayHold s)) first (f.base.pushed m)) in
+    by_test (is_new s name) refl (mark_facts s name f may) (marked_then s name)
+  where
+    by_test : (b : Bool) → is_new s name ≡ b → Facts (cond b (with_mark s name) s) →
+        (IsSome (node_of s.snapshot name) → Contains (cond b (with_mark s name) s).marked name) →
+        IsSafe (cond b (with_mark (dropped s m rest) name) (dropped s m rest)) target
+    by_test true e g done = drop_safe (with_mark s name) g m name rest first done target there (safe_then s name target safe)
+    by_test false e g done = drop_safe s g m name rest first done target there safe
 
 pub take_facts : (s : State) → Facts s → (m : ℕ) (names : List Name) → names_of s.pushed m ≡ names → Facts (after_take s m names)
 take_facts s f m [] first = f

@@ -1,7 +1,7 @@
 -- Each event of a run that isn't closed keeps an invariant: no name is marked twice, and g stays the first.
 use Rattle.std.specs.Prelude.{◌≡◌, ◌++◌, ◌∷◌}
-use Rattle.nmgc_snapshot_laws.specs.laws.Vocabulary.{ℕ, true, false, List, [], refl, sym, ap, subst, ◌∙◌, Option, Some, None, is_some, and_parts, not-true, Name, Value, Row, World, node_of, shared_name, nothing_in, Entry, Event, Passes, after_push, after_scan, after_take, advanced, Runs, read_at, State, names_of, is_listed, mark_name, mark_read, mark_values, opening, root_values, AreDistinct, distinct_push, not}
-use Rattle.nmgc_snapshot_laws.specs.{State.unmarked, laws.Listed.not_listed, laws.Marking.mark_cases}
+use Rattle.nmgc_snapshot_laws.specs.laws.Vocabulary.{ℕ, Bool, Contains, true, false, List, [], refl, sym, ap, subst, ◌∙◌, Option, Some, None, is_some, and_parts, not-true, Name, Value, Row, World, node_of, shared_name, nothing_in, Entry, Event, Passes, after_push, after_scan, after_take, advanced, Runs, read_at, State, names_of, is_listed, mark_name, mark_read, mark_values, opening, root_values, AreDistinct, distinct_push, not}
+use Rattle.nmgc_snapshot_laws.specs.{State.unmarked, laws.Listed.not_listed, laws.Marking.mark_cases, laws.Marking.still_marked}
 use Rattle.nmgc_world_spec.specs.declared.value.Value.TheVariants as value
 use Rattle.nmgc_snapshot_laws.specs.declared.event.Event.TheVariants as event
 
@@ -18,6 +18,56 @@ stays_closed s (e ∷ es) rows t (true, next, rest, first, is, later) on = absur
     running (event.Take m) p = p.0.0
     running event.Close p = p.0.0
 stays_closed s (e ∷ es) rows t (false, next, rest, first, is, later) on = stays_closed next es rest t later (ap (λ (x : State). x.is_closed) first.1 ∙ on)
+
+-- a machine that ends open was open all along
+pub open_before : (s : State) (es : List Event) (rows : List Row) (t : State) → Runs s es rows t → t.is_closed ≡ false → s.is_closed ≡ false
+open_before s es rows t h running = by_test s.is_closed refl
+  where
+    by_test : (b : Bool) → s.is_closed ≡ b → s.is_closed ≡ false
+    by_test true e = absurd (let bad : true ≡ false = sym (stays_closed s es rows t h e) ∙ running in cc)
+    by_test false e = e
+
+-- a marked name stays marked
+marked_read : (s : State) (v : Option Value) (n : Name) → Contains s.marked n → Contains (mark_read s v).marked n
+marked_read s None n c = c
+marked_read s (Some value.Nil) n c = c
+marked_read s (Some (value.Number k)) n c = c
+marked_read s (Some (value.Ref name)) n c = still_marked s name n c
+
+marked_advanced : (s : State) (queue : List Entry) (n : Name) → Contains s.marked n → Contains (advanced s queue).marked n
+marked_advanced s [] n c = c
+marked_advanced s (entry ∷ rest) n c = c
+
+pub marked_scan : (s : State) (queue : List Entry) (n : Name) → Contains s.marked n → Contains (after_scan s queue).marked n
+marked_scan s [] n c = c
+marked_scan s (entry ∷ rest) n c =
+    let t : State = mark_read s (read_at (node_of s.world entry.name) entry.position) in
+    marked_advanced t t.queue n (marked_read s (read_at (node_of s.world entry.name) entry.position) n c)
+
+marked_push : (s : State) (m : ℕ) (names : List Name) (n : Name) → Contains s.marked n → Contains (after_push s m names).marked n
+marked_push s m [] n c = c
+marked_push s m (name ∷ rest) n c = c
+
+marked_take : (s : State) (m : ℕ) (names : List Name) (n : Name) → Contains s.marked n → Contains (after_take s m names).marked n
+marked_take s m [] n c = c
+marked_take s m (name ∷ rest) n c = still_marked _ name n c
+
+pub marked_runs : (s : State) (es : List Event) (rows : List Row) (t : State) → Runs s es rows t → t.is_closed ≡ false → (n : Name) →
+    Contains s.marked n → Contains t.marked n
+marked_runs s [] rows t h running n c = subst (λ (x : State). Contains x.marked n) (sym h.1) c
+marked_runs s (e ∷ es) rows t (false, next, rest, first, is, later) running n c =
+    marked_runs next es rest t later running n (subst (λ (x : State). Contains x.marked n) (sym first.1) c)
+marked_runs s (event.Command m k answer ∷ es) rows t (true, next, rest, first, is, later) running n c =
+    marked_runs next es rest t later running n (subst (λ (x : State). Contains x.marked n) (sym first.1) c)
+marked_runs s (event.Push m ∷ es) rows t (true, next, rest, first, is, later) running n c =
+    marked_runs next es rest t later running n (subst (λ (x : State). Contains x.marked n) (sym first.1) (marked_push s m (names_of s.owed m) n c))
+marked_runs s (event.Scan ∷ es) rows t (true, next, rest, first, is, later) running n c =
+    marked_runs next es rest t later running n (subst (λ (x : State). Contains x.marked n) (sym first.1) (marked_scan s s.queue n c))
+marked_runs s (event.Take m ∷ es) rows t (true, next, rest, first, is, later) running n c =
+    marked_runs next es rest t later running n (subst (λ (x : State). Contains x.marked n) (sym first.1) (marked_take s m (names_of s.pushed m) n c))
+marked_runs s (event.Close ∷ es) rows t (true, next, rest, first, is, later) running n c =
+    let on : next.is_closed ≡ true = ap (λ (x : State). x.is_closed) first.1.rest in
+    absurd (let bad : true ≡ false = sym on ∙ open_before next es rest t later running in cc)
 
 -- g is the first marked name, and no name is marked twice
 pub record IsOnce (s : State) : Type 0 where

@@ -25,14 +25,14 @@ pub still_marked : (s : State) (name other : Name) → Contains s.marked other �
 still_marked s name other h = mark_cases (λ t. Contains t.marked other) s name (λ e. Contains-append_left s.marked (name ∷ []) other h) (λ e. h)
 
 -- a field that is looked after stays so
-ahead_then : (s : State) (name n : Name) (i : ℕ) → IsAhead s n i → IsAhead (with_mark s name) n i
+pub ahead_then : (s : State) (name n : Name) (i : ℕ) → IsAhead s n i → IsAhead (with_mark s name) n i
 ahead_then s name n i (queued entry h e le) = queued entry (Contains-append_left s.queue (entry_of name ∷ []) entry h) e le
 ahead_then s name n i (unmarked not) = elim (name_cases name n) [
   | inl e ↦ queued (entry_of name) (Contains-push s.queue (entry_of name)) e (omega arith)
   | inr ne ↦ unmarked (λ h. elim (Contains-push_cases s.marked name n h) [ inl old ↦ not old | inr e ↦ ne e ])
 ]
 
-safe_then : (s : State) (name target : Name) → IsSafe s target → IsSafe (with_mark s name) target
+pub safe_then : (s : State) (name target : Name) → IsSafe s target → IsSafe (with_mark s name) target
 safe_then s name target (marked h) = marked (Contains-append_left s.marked (name ∷ []) target h)
 safe_then s name target (owed m h) = owed m h
 safe_then s name target (pushed m h) = pushed m h

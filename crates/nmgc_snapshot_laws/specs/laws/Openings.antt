@@ -1,6 +1,6 @@
 -- The facts hold at the opening: the mutators hold live names, and every root is marked.
 use Rattle.std.specs.Prelude.{◌≡◌, ◌<◌, ◌∷◌, ◌++◌, ◌⊎◌}
-use Rattle.nmgc_snapshot_laws.specs.laws.Vocabulary.{ℕ, List, [], zero, suc, length, replicate, refl, sym, ap, subst, ◌∙◌, arith, Option, Some, None, inl, inr, IsSome, IfSome, All, Contains, flat_map, slice_get, length-replicate, get_or_past, All-head, All-tail, All-nil, All-append, Contains-append_left, Contains-append_right, Contains-append_cases, Contains-get_or, cases_lt, Name, Value, Node, MutatorState, World, state_of, node_of, no_mutator, IsWorld, shared_name, IsRoot, root, field, strong_fields, State, names_of, mark_name, mark_values, root_values, opening, get_or_from_slice_get, nothing_in, one_is, contains_one, contains_flat, place_of, contains_cases, contains_head, contains_tail, name_cases, field_at_place, same_later, Fields, Names, HasStrongField, MayHold, IsLiveIn, Kept, Base, Facts, marked}
+use Rattle.nmgc_snapshot_laws.specs.laws.Vocabulary.{ℕ, List, [], same_Some, RefersTo, zero, suc, length, replicate, refl, sym, subst, ◌∙◌, arith, Option, Some, None, inl, inr, IsSome, IfSome, All, Contains, flat_map, slice_get, length-replicate, get_or_past, All-head, All-tail, All-nil, All-append, Contains-append_left, Contains-append_right, Contains-append_cases, Contains-get_or, cases_lt, Name, Value, Node, MutatorState, World, state_of, node_of, no_mutator, IsWorld, shared_name, IsRoot, root, field, strong_fields, State, names_of, mark_name, mark_values, root_values, opening, get_or_from_slice_get, nothing_in, one_is, contains_one, contains_flat, place_of, contains_cases, contains_head, contains_tail, name_cases, same_later, Fields, Names, HasStrongField, MayHold, IsLiveIn, Kept, Base, Facts, marked}
 use Rattle.nmgc_snapshot_laws.specs.{State.unmarked, laws.Listed.all_from_contains, laws.Lives.target_there, laws.Lives.refers, laws.Lives.root_there, laws.Marking.mark_cases, laws.Marking.mark_base, laws.Marking.marked_then, laws.Marking.still_marked, laws.Marking.kept_then}
 use Rattle.nmgc_world_spec.specs.declared.value.Value.TheVariants as value
 use Rattle.nmgc_snapshot_laws.specs.Facts as facts
@@ -160,15 +160,16 @@ module _ (w : World) (h : IsWorld w) where
     | inr c ↦ values_marked (unmarked w) (root_values w) name (root_there w h name r) c
   ]
 
+  -- the targets of g's slots are marked
+  pub slot_marked : (target : Name) → RefersTo w shared_name target → Contains (opening w).marked target
+  slot_marked target (node, is, c) =
+      let same : node ≡ w.shared = same_Some node w.shared (sym is) in
+      values_marked (unmarked w) (root_values w) target (target_there w h shared_name target (node, is, c))
+      (slot_is_root (value.Ref target) (subst (λ (a : Node). Contains (strong_fields a) (value.Ref target)) same c))
+
   open_kept : (n : Name) (i : ℕ) (target : Name) → HasStrongField w n i (value.Ref target) → Kept (opening w) n i target
   open_kept n i target st = elim (name_cases n shared_name) [
-    | inl g ↦
-        let same : Some st.node ≡ Some w.shared = sym st.node_is ∙ ap (λ a. node_of w a) g in
-        let is : st.node ≡ w.shared = cc in
-        let c : Contains (strong_fields w.shared) (value.Ref target) =
-        subst (λ (a : Node). Contains (strong_fields a) (value.Ref target)) is (field_at_place st.node i (value.Ref target) st.field) in
-        inl (marked (values_marked (unmarked w) (root_values w) target (target_there w h n target (refers w n target i st))
-        (slot_is_root (value.Ref target) c)))
+    | inl g ↦ inl (marked (slot_marked target (subst (λ (a : Name). RefersTo w a target) g (refers w n target i st))))
     | inr ne ↦ values_kept (unmarked w) (root_values w) n i target (inr (st, facts.unmarked (λ c. ne (sym (one_is shared_name n c)))))
   ]
 

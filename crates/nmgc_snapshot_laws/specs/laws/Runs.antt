@@ -59,7 +59,7 @@ mark_history s name = mark_cases (SameHistory s) s name (λ e. record {
   is_closed = refl;
 }) (λ e. same_history s)
 
-read_history : (s : State) (o : Option Value) → SameHistory s (mark_read s o)
+pub read_history : (s : State) (o : Option Value) → SameHistory s (mark_read s o)
 read_history s None = same_history s
 read_history s (Some value.Nil) = same_history s
 read_history s (Some (value.Number n)) = same_history s
@@ -84,11 +84,11 @@ scan_history s (entry ∷ rest) =
     let t : State = mark_read s (read_at (node_of s.world entry.name) entry.position) in
     then_history s t (advanced t t.queue) (read_history s (read_at (node_of s.world entry.name) entry.position)) (advanced_history t t.queue)
 
-push_history : (s : State) (m : ℕ) (names : List Name) → SameHistory s (after_push s m names)
+pub push_history : (s : State) (m : ℕ) (names : List Name) → SameHistory s (after_push s m names)
 push_history s m [] = same_history s
 push_history s m (name ∷ rest) = record { world = refl; snapshot = refl; opened = refl; finalised = refl; is_closed = refl }
 
-take_history : (s : State) (m : ℕ) (names : List Name) → SameHistory s (after_take s m names)
+pub take_history : (s : State) (m : ℕ) (names : List Name) → SameHistory s (after_take s m names)
 take_history s m [] = same_history s
 take_history s m (name ∷ rest) = mark_cases (SameHistory s) _ name (λ e. record {
   world = refl;

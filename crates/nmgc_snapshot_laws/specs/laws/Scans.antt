@@ -24,7 +24,7 @@ only_result (Weak parts) i v r h = absurd cc
 only_result (Stack size values) i v r h = absurd cc
 
 -- an entry that has yet to reach a field moves on, unless it reads that field now
-entry_stays : (node : Node) (entry : Entry) (i : ℕ) (v : Value) → i < fields_of node → strong_at node i ≡ Some v → entry.position ≤ i →
+pub entry_stays : (node : Node) (entry : Entry) (i : ℕ) (v : Value) → i < fields_of node → strong_at node i ≡ Some v → entry.position ≤ i →
     is_last node entry.position ≡ false
 entry_stays node entry i v lt h le = not_last node entry.position (omega arith) (λ e.
     false_from_ne_true (has_result node) (λ r. let z : i ≡ 0 = only_result node i v r h in absurd (omega arith)))
@@ -39,7 +39,7 @@ moved_cases node entry e h = by_test (is_last node entry.position) refl h
     by_test true is c = absurd (nothing_in e c)
     by_test false is c = (is, sym (one_is _ e c))
 
-moved_stays : (node : Node) (entry : Entry) → is_last node entry.position ≡ false →
+pub moved_stays : (node : Node) (entry : Entry) → is_last node entry.position ≡ false →
     Contains (moved_on (Some node) entry) (record { name = entry.name; position = entry.position + 1 })
 moved_stays node entry e = rw e (contains_one _)
 

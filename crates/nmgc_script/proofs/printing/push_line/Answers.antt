@@ -1,5 +1,5 @@
 use Rattle.std.proofs.{Common.◌++◌, Common.ℕ, Common.List, Common.map, Common.ap, Common.sym, Common.◌∙◌, Common.append_assoc, lemmas.Result.IfOk-equal}
-use Rattle.nmgc_io.specs.{Text.after_spaces, laws.Parts.spaced_after}
+use Rattle.nmgc_io.specs.{Spaced.after_spaces, laws.Parts.spaced_after}
 use Rattle.nmgc_script.specs.Printing.{word_text}
 use Rattle.nmgc_script.proofs.printing.push_line.Goals as goal
 

@@ -1,5 +1,5 @@
 use Rattle.std.proofs.Common.{◌≡◌, ◌++◌, ◌∙◌, ap, List, ℕ}
-use Rattle.nmgc_io.specs.Text.{after_spaces}
+use Rattle.nmgc_io.specs.Spaced.{after_spaces}
 use Rattle.nmgc_trace_checker.proofs.Answering.{texts_of_words, joined_is}
 use Rattle.nmgc_trace_checker.proofs.commands.join_tokens.Goals as goal
 

@@ -1,5 +1,5 @@
 use Rattle.std.proofs.Common.{◌≡◌, ◌++◌, map, drop}
-use Rattle.nmgc_io.specs.Text.{after_spaces}
+use Rattle.nmgc_io.specs.Spaced.{after_spaces}
 use Rattle.nmgc_trace_checker.proofs.commands.push_words.Given as goal
 
 -- the tokens so far were appended

@@ -1,4 +1,4 @@
-use Rattle.nmgc_segment.specs.Segment.{IsMarked}
+use Rattle.nmgc_segment.specs.Invariant.{IsMarked}
 use Rattle.nmgc_weak.proofs.Knowing.{block_known}
 use Rattle.nmgc_weak.proofs.resolve.is_marked.Goals as goal
 

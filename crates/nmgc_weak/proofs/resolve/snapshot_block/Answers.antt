@@ -1,4 +1,4 @@
-use Rattle.nmgc_segment.specs.Segment.{InSnapshot}
+use Rattle.nmgc_segment.specs.Invariant.{InSnapshot}
 use Rattle.nmgc_weak.proofs.Knowing.{block_known}
 use Rattle.nmgc_weak.proofs.resolve.snapshot_block.Goals as goal
 

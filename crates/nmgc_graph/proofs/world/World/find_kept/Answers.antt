@@ -1,4 +1,4 @@
-use Rattle.nmgc_world_spec.specs.World.{IsWorld}
+use Rattle.nmgc_world_spec.specs.Known.{IsWorld}
 use Rattle.nmgc_graph.proofs.Kepts.{kept_search, kept_found}
 use Rattle.nmgc_graph.proofs.world.World.find_kept.Goals as goal
 

@@ -1,4 +1,4 @@
-use Rattle.nmgc_world_spec.specs.World.{IsWorld}
+use Rattle.nmgc_world_spec.specs.Known.{IsWorld}
 use Rattle.nmgc_graph.proofs.Lives.{live_begun}
 use Rattle.nmgc_graph.proofs.world.World.start_search.Goals as goal
 

@@ -1,0 +1,56 @@
+-- The terms of the contracts below the top call: the refusals of a reader, a task that can be done, an answer's output.
+use Rattle.std.specs.Prelude.{◌≡◌}
+use Rattle.nmgc_script.specs.{declared.fault.ScriptFault.ScriptFault, declared.script.Script.Script, Limits.IsInLimits}
+use Rattle.nmgc_io.specs.declared.ends.ReadEnd.{ReadEnd}
+use Rattle.nmgc_journal.specs.declared.report.Report.{Report}
+use Rattle.nmgc_image.specs.declared.fault.ImageFault.{ImageFault}
+use Rattle.nmgc_arguments.specs.Output.{text_bytes}
+use Rattle.nmgc_cli.specs.{declared.answer.Refusal.Refusal, declared.output.Output.Output, declared.task.Task.Task, declared.task.Task.TheVariants.Run, declared.task.Task.TheVariants.Bench, declared.task.Task.TheVariants.Upgrade, declared.task.Task.TheVariants.Image, declared.task.Task.TheVariants.Retain, declared.task.Task.TheVariants.Marks, Answer.Answer, Answer.answer_status, Answer.answer_report, Answer.answer_text, Task.IsBench, Task.AreMarkers}
+use Rattle.nmgc_run_spec.specs.Crowded.{IsRunOf}
+use Rattle.nmgc_io.specs.declared.ends.ReadEnd.TheVariants as read
+use Rattle.nmgc_script.specs.declared.fault.ScriptFault.TheVariants as script
+use Rattle.nmgc_image.specs.declared.fault.ImageFault.TheVariants as image
+use Rattle.nmgc_cli.specs.declared.answer.Refusal.TheVariants as no
+
+-- the refusal if a source couldn't be read to its end
+abbrev pub read_refusal : ReadEnd → Refusal
+read_refusal read.ReadFault = no.ReadFault
+read_refusal read.TooLong = no.TooLong
+read_refusal read.NoMemory = no.NoMemory
+
+-- the refusal if a script couldn't be read from its bytes
+abbrev pub script_refusal : ScriptFault → Refusal
+script_refusal (script.Bad line c) = no.Bad line c
+script_refusal script.NoMemory = no.NoMemory
+
+-- the refusal if an image couldn't be read from its bytes
+abbrev pub image_refusal : ImageFault → Refusal
+image_refusal (image.Bad line) = no.BadImage line
+image_refusal image.NoMemory = no.NoMemory
+
+-- the refusal reports a bad line. Only the text of such a refusal takes memory.
+abbrev pub IsBad : Refusal → Type 0
+IsBad (no.Bad line c) = Unit {0}
+IsBad (no.BadImage line) = Unit {0}
+IsBad _ = ⊥
+
+-- the output has the status, the report and the text of this answer
+pub record IsOutputOf (answer : Answer) (reported : Output) : Type 0 where
+  pub status : reported.status ≡ answer_status answer
+  pub report : reported.report ≡ answer_report answer
+  pub text : text_bytes reported.text ≡ answer_text answer
+
+-- the report is a report of a run of some script within the limits
+pub record IsOfScript (report : Report) : Type 0 where
+  pub script : Script
+  pub limits : IsInLimits script
+  pub run : IsRunOf script report
+
+-- the task's number, if it has one, is allowed: the batches of a bench, or the markers of `marks N`
+abbrev pub CanBeDone : Task → Type 0
+CanBeDone Run = Unit {0}
+CanBeDone (Bench batches) = IsBench batches
+CanBeDone Upgrade = Unit {0}
+CanBeDone Image = Unit {0}
+CanBeDone (Retain name) = Unit {0}
+CanBeDone (Marks markers) = AreMarkers markers
