@@ -1,4 +1,4 @@
-//! All segments, by number.
+//! All segments, by number. `late` has the type that other crates see: there the beginning of a cycle takes constant time.
 //!
 //! Placing must take constant time, except for two searches: within one segment, and for the next segment once the current
 //! one was filled. No object should need a search through all segments. A table has the number of each mutator's current
@@ -12,7 +12,7 @@
 ghost use Rattle.std.specs.Prelude.{ℕ, ◌≡◌, ◌≢◌, ◌↔◌, ◌+◌, ◌<◌, ◌≤◌, ◌/◌, ◌%◌, map, min, replicate, count_by, slice_set, IsTrue, IfOk, IfSome, IfNone};
 ghost use Rattle.nmgc_object.specs.{Layouts.IsLayout, Layouts.IsSegmentSize, Places.segment_place};
 ghost use Rattle.nmgc_segment.specs.{Marks.IsEpoch, Segment.free_segment, Segment.block_count};
-ghost use Rattle.nmgc_alloc.specs.{CycleSteps.prepared, CycleSteps.carried_over, CycleSteps.retired, Numbered.is, Numbered.nth, Search.sought_count, Search.IsKind, Search.tally_from, Halves.IsInHalf, Halves.SweepsMany};
+ghost use Rattle.nmgc_alloc.specs.{CycleSteps.prepared, CycleSteps.carried_over, CycleSteps.retired, CycleSteps.with_snapshot, Numbered.is, Numbered.nth, Search.sought_count, Search.IsKind, Search.tally_from, Halves.IsInHalf, Halves.SweepsMany};
 
 use crate::filing::Filed;
 use crate::search::{self, Category};
@@ -29,7 +29,7 @@ use std::thread::Threads;
 
 /// The segments of a heap, in order of their numbers.
 #[derive(Drop)]
-pub struct Segments {
+pub(crate) struct Segments {
     layout: Layout,
     segments: Vec<Segment>,
     fresh: u32,
@@ -95,11 +95,11 @@ fn first_tallies(alloc: Global, segments: u32) -> Result<Vec<Tally>, NoMemory>
 }
 
 impl Segments {
-    ghost use Rattle.nmgc_alloc.specs.Segments.{all_free, IsMutator, IsClass, IsCurrent, HasRoom, HasNone, HasNoneIn, HasNoCurrent, Allocates, SweepsNext, IsBlockAt, IsSegments, IsOwn, IsLeast, IsOpen, CountsFilled, TakesBlock, IsChosen, SweepsSegment, MarksBlock, MarksIfBlock, IsToMark, as_current, marked_if};
+    ghost use Rattle.nmgc_alloc.specs.Segments.{all_free, IsMutator, IsClass, IsCurrent, HasRoom, HasNone, HasNoneIn, HasNoCurrent, Allocates, SweepsNext, IsBlockAt, IsSegments, IsOwn, IsLeast, IsOpen, CountsFilled, TakesBlock, IsChosen, SweepsSegment, IsToMark, as_current, marked_if};
     ghost use Rattle.nmgc_alloc.specs.Numbered.{HasNumber, block_place};
 
     /// Makes all segments of a layout, each of them free. No other call takes memory. Fails with `NoMemory` if there is none.
-    pub fn new(alloc: Global, layout: Layout) -> Result<Self, NoMemory>
+    pub(crate) fn new(alloc: Global, layout: Layout) -> Result<Self, NoMemory>
         requires { IsLayout layout }
         ensures value { IfOk result (λ segments. segments ≡ all_free layout) }
         ensures sound { IfOk result IsSegments }
@@ -118,7 +118,7 @@ impl Segments {
     }
 
     /// Returns the layout.
-    pub fn layout(&self) -> Layout
+    pub(crate) fn layout(&self) -> Layout
         ensures layout { result ≡ self.now.layout }
         ensures sound { IsSegments self.now }
     {
@@ -134,14 +134,14 @@ impl Segments {
     }
 
     /// Returns the number of segments filled by placing since the last cycle began, at most the number of filled segments.
-    pub fn fresh(&self) -> u32
+    pub(crate) fn fresh(&self) -> u32
         ensures { result ≡ self.now.fresh }
     {
         self.fresh
     }
 
     /// Returns a segment by its number.
-    pub fn segment(&self, number: u32) -> &Segment
+    pub(crate) fn segment(&self, number: u32) -> &Segment
         requires { HasNumber self.now number }
         ensures { result.now ≡ nth self.now.segments number }
     {
@@ -149,21 +149,21 @@ impl Segments {
     }
 
     /// Returns the number of free segments. Constant time.
-    pub fn free_count(&self) -> u32
+    pub(crate) fn free_count(&self) -> u32
         ensures { result ≡ count_by (λ segment. is segment.state State.Free) self.now.segments }
     {
         self.tallies[Category::Free.place()].count
     }
 
     /// Returns the number of filled segments. Constant time.
-    pub fn filled_count(&self) -> u32
+    pub(crate) fn filled_count(&self) -> u32
         ensures { result ≡ count_by (λ segment. is segment.state State.Filled) self.now.segments }
     {
         self.filled
     }
 
     /// Returns the number of segments to be swept. Constant time.
-    pub fn sweep_count(&self) -> u32
+    pub(crate) fn sweep_count(&self) -> u32
         ensures { result ≡ count_by (λ segment. is segment.state State.Sweeping) self.now.segments }
     {
         self.tallies[Category::Sweeping.place()].count
@@ -293,10 +293,8 @@ impl Segments {
         }
     }
 
-    /// Returns true exactly if there is room for a mutator's object of a class. The room is in the mutator's current segment
-    /// of the class, which always has a free block, in an active segment of the class, or in a free segment. It is for tests:
-    /// promotion knows from the reserve that there is room.
-    pub fn has_room(&self, mutator: u8, class: u8) -> bool
+    /// Returns true exactly if there is room for a mutator's object of a class.
+    pub(crate) fn has_room(&self, mutator: u8, class: u8) -> bool
         requires mutator { IsMutator self.now.layout mutator }
         requires class { IsClass self.now.layout class }
         ensures { IsTrue result ↔ HasRoom self.now mutator class }
@@ -309,7 +307,7 @@ impl Segments {
 
     /// Places an object of the class for the mutator by Note [The placing rule], and returns its address. Constant time
     /// except for the search for the next unused block, and for the next segment if the current one was filled.
-    pub fn allocate(&mut self, mutator: u8, class: u8) -> Address
+    pub(crate) fn allocate(&mut self, mutator: u8, class: u8) -> Address
         requires mutator { IsMutator self.old.layout mutator }
         requires class { IsClass self.old.layout class }
         requires room { HasRoom self.old mutator class }
@@ -324,7 +322,7 @@ impl Segments {
 
     /// Returns the segment's number and the block's number for the block that begins at an address, or `None` exactly if no
     /// block begins there. A free segment has no blocks. Constant time: a shift finds the segment, without a division.
-    pub fn block_at(&self, at: Address) -> Option<(u32, u32)>
+    pub(crate) fn block_at(&self, at: Address) -> Option<(u32, u32)>
         ensures some { IfSome result (λ p. IsBlockAt self.now p.0 p.1 at.0) }
         ensures none { IfNone result ((number block : ℕ) → IsBlockAt self.now number block at.0 → ⊥) }
     {
@@ -332,47 +330,21 @@ impl Segments {
         self.block_in(number, offset)
     }
 
-    /// Marks the block that begins at the address if it is an unmarked block of the snapshot, and returns whether it did.
-    /// Otherwise nothing changes. Requires that a block begins there. For tests; the marker calls `try_mark_at`.
-    pub fn mark_at(&mut self, at: Address, epoch: u8) -> bool
-        requires epoch { IsEpoch epoch }
-        requires begins { (number : ℕ) × (block : ℕ) × IsBlockAt self.old number block at.0 }
-        ensures marks { MarksBlock self.old self.new at.0 epoch result }
-        ensures sound { IsSegments self.new }
-    {
-        match self.block_at(at) {
-            Some((number, block)) => self.try_mark(number, block, epoch),
-            None => unreachable!(),
-        }
-    }
-
-    /// Marks the block that begins at the address, if one begins there and is an unmarked block of the snapshot. Returns
-    /// whether it marked a block. Otherwise nothing changes. Constant time.
-    pub fn try_mark_at(&mut self, at: Address, epoch: u8) -> bool
-        requires { IsEpoch epoch }
-        ensures marks { MarksIfBlock self.old self.new at.0 epoch result }
-        ensures sound { IsSegments self.new }
-    {
-        let _ = &self.segments;
-        match self.block_at(at) {
-            Some((number, block)) => self.try_mark(number, block, epoch),
-            None => false,
-        }
-    }
-
-    /// Marks a block if it is an unmarked block of the snapshot, and returns whether it marked the block. Constant time.
-    pub fn try_mark(&mut self, number: u32, block: u32, epoch: u8) -> bool
+    /// Marks a block if it is an unmarked block of the snapshot, and returns whether it marked the block. If the segment's
+    /// snapshot is `late`, takes it first. Constant time.
+    pub(crate) fn try_mark(&mut self, number: u32, block: u32, epoch: u8, late: bool) -> bool
         requires epoch { IsEpoch epoch }
         requires exists { HasNumber self.old number }
         requires block { block < block_count (nth self.old.segments number) }
-        ensures answer { IsTrue result ↔ IsToMark (nth self.old.segments number) epoch block }
+        ensures answer { IsTrue result ↔ IsToMark (with_snapshot late (nth self.old.segments number)) epoch block }
         ensures value { self.new ≡ record self.old {
           segments =
-              slice_set self.old.segments number (marked_if result epoch block (nth self.old.segments number));
+              slice_set self.old.segments number (marked_if result epoch block (with_snapshot late (nth self.old.segments number)));
         } }
         ensures sound { IsSegments self.new }
     {
         let segment = &mut self.segments[number as usize];
+        cycle_steps::snapshot_if(segment, late);
         cycle_steps::mark_if_unmarked(segment, block, epoch)
     }
 
@@ -414,7 +386,7 @@ impl Segments {
     }
 
     /// Returns the address of the first word of a segment's block.
-    pub fn place_of(&self, number: u32, block: u32) -> Address
+    pub(crate) fn place_of(&self, number: u32, block: u32) -> Address
         requires exists { HasNumber self.now number }
         requires block { block < block_count (nth self.now.segments number) }
         ensures place { result.0 ≡ block_place self.now.layout number (nth self.now.segments number).class block }
@@ -426,7 +398,7 @@ impl Segments {
 
     /// Begins a cycle: takes the snapshot of every segment that isn't free, and sets `fresh` to 0. Filled segments are then
     /// to be swept. Requires that no segment is to be swept before.
-    pub fn prepare(&mut self)
+    pub(crate) fn prepare(&mut self)
         requires { HasNoneIn State.Sweeping self.old }
         ensures value { self.new ≡ record self.old { segments = map prepared self.old.segments; fresh = 0 } }
         ensures sound { IsSegments self.new }
@@ -438,7 +410,7 @@ impl Segments {
     }
 
     /// Sets each mark byte that isn't 0 to the epoch, in all segments that are neither free nor to be swept.
-    pub fn carry(&mut self, epoch: u8)
+    pub(crate) fn carry(&mut self, epoch: u8)
         requires { IsEpoch epoch }
         ensures value { self.new ≡ record self.old { segments = map (carried_over epoch) self.old.segments } }
         ensures sound { IsSegments self.new }
@@ -448,7 +420,7 @@ impl Segments {
 
     /// Sweeps the least-numbered segment that is to be swept, and returns its number. Returns `None` exactly if there is
     /// none. Constant time except for the search for that segment and the sweep.
-    pub fn sweep_next(&mut self, epoch: u8) -> Option<u32>
+    pub(crate) fn sweep_next(&mut self, epoch: u8) -> Option<u32>
         requires { IsEpoch epoch }
         ensures none { IfNone result (HasNoneIn State.Sweeping self.old × (self.new ≡ self.old)) }
         ensures some { IfSome result (λ number. SweepsNext self.old self.new epoch number) }
@@ -459,12 +431,9 @@ impl Segments {
         Some(number)
     }
 
-    /// Sweeps the first `quota` waiting segments, by number, or all if there are fewer, and returns the number of sweeps. The
-    /// segments are then the same as after this number of calls of `sweep_next`. Takes no memory. It sweeps two halves in two
-    /// threads. If the number of sweeps is odd, the lower half has one more. For a single segment, or if no thread can be
-    /// started, the calling thread does the work. Before each sweep, a half calls `before` with its number (0 or 1) and the
-    /// number of its earlier sweeps. No clause promises these calls: the requirement `before` only bounds the arguments.
-    pub fn sweep_many<R: Threads + Sync, F: Fn(u8, u32) + Sync>(
+    /// Sweeps the first `quota` waiting segments, by number, or all if there are fewer, and returns the number of sweeps. See
+    /// `late`.
+    pub(crate) fn sweep_many<R: Threads + Sync, F: Fn(u8, u32) + Sync>(
         &mut self,
         rt: &R,
         epoch: u8,
@@ -560,7 +529,7 @@ impl Segments {
     }
 
     /// Files every current and every active segment as filled, for a full cycle that is to begin.
-    pub fn retire_all(&mut self)
+    pub(crate) fn retire_all(&mut self)
         ensures value { self.new ≡ record self.old { segments = map retired self.old.segments } }
         ensures sound { IsSegments self.new }
     {

@@ -2,7 +2,8 @@
 //!
 //! Most memory that grows with the heap is taken at the beginning (`Collector::new`). The table of words is copied from a
 //! list of the same length. This list is freed at once, and its pages, already touched, serve later lists. So room that may
-//! never be filled is taken before it, and gets none of them. A cycle takes the marker's queue and the sweeper's lists.
+//! never be filled is taken before it, and gets none of them. A cycle takes the sweeper's lists. The first cycle also takes
+//! the marker's list, whose memory each later marker takes over.
 //!
 //! The report is made when nothing may fail any more. So it takes over the table of words, without a copy. The final
 //! registers, queues and serials go into a list that is empty until then, with room from the beginning (`IsWellFormed`).
@@ -30,6 +31,7 @@ use nmgc_alloc::Segments;
 use nmgc_journal::{CycleRow, End, FinalWords, MutatorEnd, Report, RoundRows, StopRow};
 use nmgc_limits::SHARED_SLOTS;
 use nmgc_lists::{List, ListMemory, NoMemory, VecList};
+use nmgc_mark::MarkerMemory;
 use nmgc_minor::Promotion;
 use nmgc_mutator::mutator::{MOST_PUSHED, Mutator};
 use nmgc_object::layout::SHARED_PLACE;
@@ -64,6 +66,8 @@ pub struct Collector {
     // The end of the run, if the last stop answered an end.
     pub(crate) answered: Option<End>,
     pub(crate) report: ReportMemory,
+    // The memory of the last cycle's marker. While a cycle marks, its marker has the memory.
+    pub(crate) marker_memory: MarkerMemory,
 }
 
 // The heap: its words, its segments with the names of objects in them, the lists of a promotion, and the weak pointers.
@@ -244,10 +248,9 @@ impl Collector {
         let words = new_words(alloc, layout)?;
         let segments = Segments::new(alloc, layout)?;
         let names = NameTable::new(alloc, layout)?;
-        let count = layout.mutators as usize;
-        let workers = WorkerRoom::reserve(alloc, count)?;
-        let positions = vec![in alloc; 0u32; count]?;
-        let report = ReportMemory::new(alloc, count)?;
+        let workers = WorkerRoom::reserve(alloc, layout.mutators as usize)?;
+        let positions = vec![in alloc; 0u32; layout.mutators as usize]?;
+        let report = ReportMemory::new(alloc, layout.mutators as usize)?;
         Ok(Collector {
             alloc,
             heap: Heap {
@@ -276,6 +279,7 @@ impl Collector {
             },
             answered: None,
             report,
+            marker_memory: MarkerMemory::new(alloc),
         })
     }
 
@@ -344,6 +348,7 @@ impl Collector {
             cycle: _,
             answered: _,
             report,
+            marker_memory: _,
         } = self;
         let Heap {
             words,

@@ -164,7 +164,8 @@ impl Collector {
 
     // Closes a cycle, and returns the cycle as it begins to sweep. The marker scans to the end, weak pointers are resolved,
     // finalisers of those that die are queued, and marks of segments that aren't to be swept are carried over. Words,
-    // segments, the list of weak pointers and queues change. The sweeper gets the marker's count of the gate's passes.
+    // segments, the list of weak pointers and queues change. The sweeper gets the marker's count of the gate's passes, and
+    // the marker's memory is kept for the next cycle.
     pub(crate) fn close(&mut self, marking: Marking, stop: u32) -> Sweeping
         requires words { IsSome self.old.heap.words }
         requires ready { IsReadyToClose (words_in self.old.heap.words) self.old.heap.segments self.old.heap.weaks.list (queues_in self.old.mutators.items)
@@ -194,12 +195,14 @@ impl Collector {
         segments_are_sound(&self.heap.segments);
         self.heap.segments.carry(marker.epoch());
         sweeper.turns = marker.turns;
-        Sweeping {
+        let sweeping = Sweeping {
             from,
             closed: stop,
             kept: marker.marked(),
             sweeper,
-        }
+        };
+        self.marker_memory.keep(marker);
+        sweeping
     }
 
     // Whether a cycle sweeps and no segment waits to be swept any more.
@@ -288,6 +291,7 @@ impl Collector {
         let mut sweeper = Sweeper::start(self.alloc, &self.heap.segments, epoch)?;
         let mut marker = Marker::snapshot(
             self.alloc,
+            &mut self.marker_memory,
             words,
             &mut self.heap.segments,
             self.mutators.as_slice(),

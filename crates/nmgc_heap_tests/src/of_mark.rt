@@ -39,7 +39,7 @@ fn marker_of(alloc: Global, segments: &Segments) -> Result<Marker, NoMemory>
 // Whether a block begins at an address, and was marked.
 fn is_marked(segments: &Segments, at: u32) -> Option<bool> {
     let (number, block) = segments.block_at(Address(at))?;
-    Some(segments.segment(number).is_marked(block, 1))
+    Some(segments.is_marked(number, block, 1))
 }
 
 // The addresses that wait, in order.

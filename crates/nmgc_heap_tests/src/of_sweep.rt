@@ -157,7 +157,7 @@ fn compare(
     assert!(rt; sorted_names(alloc, &census.freed)?.as_slice() == row.freed);
     for number in 0..segments.layout().segments {
         if let Some(state) = row.states.get(number as usize) {
-            assert!(rt; segments.segment(number).state() == *state);
+            assert!(rt; segments.state(number) == *state);
         }
     }
     Ok(())

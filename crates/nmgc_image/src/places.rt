@@ -15,7 +15,7 @@ use crate::search::Search;
 use nmgc_journal::{MutatorEnd, Report};
 use nmgc_lists::NoMemory;
 use nmgc_object::SHARED_PLACE;
-use nmgc_segment::{Segment, State};
+use nmgc_segment::State;
 use std::alloc::Global;
 
 /// Returns the addresses of all objects that the image of a report has, in no particular order.
@@ -112,10 +112,10 @@ fn visit_segment(
     requires number { HasNumber report.now.segments number }
     ensures { OnOk result (Visits (IsWeakIn report.now number) search.old search.new) }
 {
-    let segment = report.segments.segment(number);
-    if is_free(segment) {
+    if is_free(report.segments.state(number)) {
         return Ok(());
     }
+    let segment = report.segments.segment(number);
     for block in 0..segment.blocks() {
         if segment.in_use(block) {
             let at = report.segments.place_of(number, block).0;
@@ -125,11 +125,11 @@ fn visit_segment(
     Ok(())
 }
 
-// Whether a segment is free.
-fn is_free(segment: &Segment) -> bool
-    ensures { IsTrue result ↔ (segment.now.state ≡ State.Free) }
+// Whether a segment in this state is free.
+fn is_free(state: State) -> bool
+    ensures { IsTrue result ↔ (state ≡ State.Free) }
 {
-    segment.state() == State::Free
+    state == State::Free
 }
 
 // Adds to the search the address of a block in use, if the name there is in `weaks`, the report's weak pointers.

@@ -57,19 +57,22 @@ fn none_begins(rt: &impl Abort, segments: &Segments, places: &[u32]) {
     }
 }
 
-// Retires the four segments. The second cycle keeps one block of the first segment.
+// Retires the four segments. The second cycle keeps one block of the first segment, which is marked before the late pass.
 fn sweep_retired(rt: &impl Abort, segments: &mut Segments) {
     segments.retire_all();
     counts(rt, segments, 28, 4, 0, 0);
     begin(rt, segments);
     mark(rt, segments, 36, 2, true);
+    segments.catch_up();
+    counts(rt, segments, 28, 0, 4, 0);
+    mark(rt, segments, 36, 2, false);
     segments.carry(2);
     for number in 0..4u32 {
         assert!(rt; segments.sweep_next(2) == Some(number));
     }
     counts(rt, segments, 31, 0, 0, 0);
     assert!(rt; 0 < segments.layout().segments);
-    assert!(rt; segments.segment(0).state() == State::Active);
+    assert!(rt; segments.state(0) == State::Active);
     for (mutator, at) in [(1, 32), (1, 40), (0, 96)] {
         assert!(rt; place(rt, segments, mutator, 0) == at);
     }

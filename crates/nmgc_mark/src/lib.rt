@@ -18,4 +18,4 @@ pub mod marker;
 mod scan;
 mod work;
 
-pub use marker::{Marker, Work};
+pub use marker::{Marker, MarkerMemory, Work};

@@ -21,6 +21,7 @@ use nmgc_object::{Address, FieldWord, HEADER_WORDS, Layout, MIN_BLOCK_WORDS, SHA
 use nmgc_round::{CollectorSeat, Round};
 use std::alloc::Global;
 use std::marker::Model;
+use std::mem;
 
 // The number of headers that the marker looks at before it scans their objects.
 const AHEAD: u32 = 8;
@@ -62,6 +63,54 @@ impl Model for Marker {
     ghost invariant = { λ m. IsEpoch m.epoch × (m.first ≤ length m.found.items) × (length m.found.items ≤ m.limit) × (m.limit ≤ length m.found.items + m.found.spare) };
 }
 
+/// The memory of the last cycle's marker, for the next marker. Contracts see nothing of it.
+///
+/// The C library gives a large list back to the system when it is freed. That would take time at each closing, for 4
+/// bytes a mark, and the next marker would touch new pages. So the list stays until the run ends, but its addresses don't.
+#[derive(Drop)]
+pub struct MarkerMemory {
+    found: Room<Address>,
+}
+
+impl Model for MarkerMemory {
+    ghost Value = { Unit {0} };
+
+    ghost view = { λ _. tt };
+}
+
+impl MarkerMemory {
+    /// Makes memory without room for any address. Takes no memory.
+    pub fn new(alloc: Global) -> MarkerMemory {
+        MarkerMemory {
+            found: Room::new(alloc),
+        }
+    }
+
+    // Lends the memory, as an empty list. Until a marker is kept, nothing is left. Takes no memory.
+    fn lend(&mut self, alloc: Global) -> Room<Address>
+        ensures empty { result.items ≡ [] }
+        ensures memory { self.new ≡ self.old }
+    {
+        let mut found = mem::replace(&mut self.found, Room::new(alloc));
+        found.clear();
+        found
+    }
+
+    /// Keeps the memory of a marker whose cycle was closed. Takes no memory.
+    pub fn keep(&mut self, marker: Marker)
+        ensures { self.new ≡ self.old }
+    {
+        let Marker {
+            turns: _,
+            epoch: _,
+            found,
+            first: _,
+            limit: _,
+        } = marker;
+        self.found = found;
+    }
+}
+
 /// Returns the greatest number of blocks that can be in use in a heap of this layout. Takes no memory.
 pub fn most_blocks(layout: Layout) -> u32
     requires { IsLayout layout }
@@ -76,7 +125,16 @@ impl Marker {
         requires { IsEpoch epoch }
         ensures { IfOk result (λ marker. marker ≡ blank epoch blocks) }
     {
-        let mut found = Room::new(alloc);
+        Marker::over(Room::new(alloc), epoch, blocks)
+    }
+
+    // The same in an empty list, which takes memory only if it has room for fewer blocks.
+    fn over(found: Room<Address>, epoch: u8, blocks: u32) -> Result<Marker, NoMemory>
+        requires epoch { IsEpoch epoch }
+        requires empty { found.items ≡ [] }
+        ensures { IfOk result (λ marker. marker ≡ blank epoch blocks) }
+    {
+        let mut found = found;
         found.reserve(blocks)?;
         Ok(Marker {
             turns: 0,
@@ -89,10 +147,12 @@ impl Marker {
 
     /// Makes the marker of a cycle that begins. The marker has marked and queued the targets of registers, finaliser queues
     /// and slots of g, in this order. The marking machine opens with these marks and this queue. Requires that marking may
-    /// begin (`IsBeginning`): no mark byte is the epoch, and blocks and roots are the snapshot's. Takes memory only for room
-    /// for every block. The marker's `turns` is 0. After `NoMemory` no block was marked.
+    /// begin (`IsBeginning`): no mark byte is the epoch, and blocks and roots are the snapshot's. The marker has room for
+    /// every block. This room is the last marker's memory, which `memory` gives away, or else new memory. Takes no other
+    /// memory. The marker's `turns` is 0. After `NoMemory` no block was marked.
     pub fn snapshot<W: HeapWords, M: MutatorRoots>(
         alloc: Global,
+        memory: &mut MarkerMemory,
         words: &mut W,
         segments: &mut Segments,
         mutators: &[M],
@@ -101,6 +161,7 @@ impl Marker {
         requires epoch { IsEpoch epoch }
         requires inside { FIRST_PLACE ≤ length (W.words words.old) }
         requires begins { (o : Opening) × IsBeginning o segments.old epoch (W.words words.old) (flat_map M.registers mutators.now) (map M.queue mutators.now) }
+        ensures memory { memory.new ≡ memory.old }
         ensures words { W.words words.new ≡ W.words words.old }
         ensures marked { IfOk result (λ marker. HasMarked segments.old segments.new (blank epoch (most_blocks segments.old.layout)) marker 0) }
         ensures turns { IfOk result (λ marker. marker.turns ≡ 0) }
@@ -110,7 +171,7 @@ impl Marker {
             IsTied o (marks_of (opening o.core.snapshot)) segments.new marker) }
     {
         let blocks = most_blocks(segments.layout());
-        let mut marker = Marker::blank(alloc, epoch, blocks)?;
+        let mut marker = Marker::over(memory.lend(alloc), epoch, blocks)?;
         marker.mark_registers(segments, mutators);
         marker.mark_queues(segments, mutators);
         marker.mark_shared(words, segments);

@@ -39,6 +39,8 @@ impl Marker {
     /// Requires that the seat is the collector's in this round, and that the inbox has a receiver for each mutator. Requires
     /// room for each unmarked block of the snapshot (`HasRoomToMark`), and a tied marker: it has the marks and the queue of
     /// the marking machine in the collector's view. It stays tied. Takes no memory, and waits only for the gate.
+    ///
+    /// The first work of a cycle begins with the late pass over the segments (`Segments::catch_up`).
     pub fn work<G: Gate>(
         &mut self,
         round: &Round,
@@ -60,6 +62,7 @@ impl Marker {
         ensures polled { HavePolled inbox.old inbox.new }
     {
         let mutators = segments.layout().mutators;
+        segments.catch_up();
         for scanned in 0..quota {
             self.look_ahead(round, seat, scanned);
             match self.take_first() {

@@ -3,5 +3,6 @@ pub mod Going
 pub mod Judged
 pub mod Listed
 pub mod Lists
+pub mod Padded
 pub mod Steps
 mod Vocabulary

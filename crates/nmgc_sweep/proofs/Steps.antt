@@ -1,5 +1,5 @@
 -- Segments are swept: the names in them are listed, the names of lost blocks are freed, and the sweeper is still at work.
-use Rattle.std.proofs.{Common.ℕ, Common.zero, Common.suc, Common.◌≡◌, Common.◌≢◌, Common.◌↔◌, Common.◌+◌, Common.◌-◌, Common.◌*◌, Common.◌^◌, Common.◌<◌, Common.◌≤◌, Common.◌∙◌, Common.inl, Common.inr, Common.refl, Common.sym, Common.ap, Common.subst, Common.arith, Common.List, Common.[], Common.◌∷◌, Common.◌++◌, Common.length, Common.Option, Common.Some, Common.None, Common.length-set, Common.length-append, lemmas.Bool.cases_eq, lemmas.Bool.Decides.nat_tests, lemmas.List.Elements.Contains-append_left, lemmas.List.Elements.Contains-append_right, lemmas.List.Elements.Contains-append_cases}
+use Rattle.std.proofs.{Common.ℕ, Common.zero, Common.suc, Common.◌≡◌, Common.◌≢◌, Common.◌↔◌, Common.◌+◌, Common.◌-◌, Common.◌*◌, Common.◌^◌, Common.◌<◌, Common.◌≤◌, Common.◌∙◌, Common.inl, Common.inr, Common.refl, Common.sym, Common.ap, Common.subst, Common.arith, Common.List, Common.[], Common.◌∷◌, Common.◌++◌, Common.length, Common.Option, Common.Some, Common.length-set, Common.length-append, lemmas.Bool.cases_eq, lemmas.Bool.Decides.nat_tests, lemmas.List.Elements.Contains-append_left, lemmas.List.Elements.Contains-append_right, lemmas.List.Elements.Contains-append_cases}
 use Rattle.std.specs.Prelude.{Contains, IsSome, min}
 use Rattle.nmgc_world_spec.specs.{declared.value.Name.Name, Listing.ListsNumbers}
 use Rattle.nmgc_lists.specs.laws.Items.{contains_head, contains_tail, contains_cases, is_some_of}

@@ -1,6 +1,6 @@
 -- The names of objects in segments, in an array by addresses: noted when objects move, and read when a segment is swept.
-use Rattle.std.specs.Prelude.{ℕ, ◌≡◌, ◌≢◌, ◌⊎◌, ◌-◌, ◌*◌, ◌/◌, ◌≤◌, List, length, slice_get, Contains, Option, Some}
-use Rattle.nmgc_world_spec.specs.declared.value.Name.{Name}
+use Rattle.std.specs.Prelude.{ℕ, ◌≡◌, ◌≢◌, ◌⊎◌, ◌-◌, ◌*◌, ◌/◌, ◌≤◌, ◌++◌, List, length, replicate, slice_get, Contains, Option, Some}
+use Rattle.nmgc_world_spec.specs.{declared.value.Name.Name, Step.shared_name}
 use Rattle.nmgc_object.specs.{declared.layout.Layout.Layout, declared.layout.TheConstants.FIRST_PLACE, declared.size.TheConstants.MIN_BLOCK_WORDS}
 use Rattle.nmgc_alloc.specs.{Numbered.block_place, AllocState.AllocState, AllocState.LiesIn, AllocState.cells}
 use Rattle.nmgc_heap_spec.specs.Moves.{Moved}
@@ -9,6 +9,10 @@ use Rattle.nmgc_heap_spec.specs.Moves.{Moved}
 -- entry for every four words. No two blocks share an entry, since each has at least four words
 abbrev pub entry_of : ℕ → ℕ
 entry_of at = (at - FIRST_PLACE) / MIN_BLOCK_WORDS
+
+-- an array of `limit` names, whose first entries are given: each missing entry is g's name
+abbrev pub padded : ℕ → List Name → List Name
+padded limit entries = entries ++ replicate (limit - length entries) shared_name
 
 -- an array with an entry for each block that a segment may have
 abbrev pub HaveEntries : Layout → List Name → Type 0

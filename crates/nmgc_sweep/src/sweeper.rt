@@ -7,7 +7,8 @@
 //! continues the marker's count. The upper half continues the count of the upper halves before it.
 //!
 //! Room for all names is taken at the start, so that sweeping beside the mutators takes no memory. Reserved memory isn't
-//! touched, and the start takes time only for the number of segments. The room suffices even if no two names are consecutive.
+//! touched, and the start looks at no segment after the last waiting one. The room suffices even if no two names are
+//! consecutive.
 //!
 //! Easy to get wrong: the names had and freed are in the order of their blocks, and several makers' segments alternate. So
 //! the sweeper's lists aren't in order of names. A report puts them in order in the cycle's row.
@@ -85,13 +86,24 @@ impl Model for Sweeper {
     ghost invariant = { λ s. IsEpoch s.epoch × (s.done ≤ length s.noted.items) × ((length s.noted.items - s.done) * s.most ≤ s.had.spare) × ((length s.noted.items - s.done) * s.most ≤ s.freed.spare) };
 }
 
-// Returns the numbers of the waiting segments, in order.
+// Whether a list has `count` numbers.
+fn has_all(numbers: &Vec<u32>, count: u32) -> bool
+    ensures { IsTrue result ↔ (length numbers.now.items ≡ count) }
+{
+    numbers.len() == count as usize
+}
+
+// Returns the numbers of the waiting segments, in order. Looks at no segment after the last waiting segment.
 fn waiting_segments(alloc: Global, segments: &Segments) -> Result<Vec<u32>, NoMemory>
     ensures { IfOk result (λ numbers. ListsNumbers (IsWaiting segments.now) numbers.items) }
 {
+    let count = segments.sweep_count();
     let mut numbers = Vec::new(alloc);
     for number in 0..segments.layout().segments {
-        if segments.segment(number).state() == State::Sweeping {
+        if has_all(&numbers, count) {
+            return Ok(numbers);
+        }
+        if segments.state(number) == State::Sweeping {
             numbers.push(number)?;
         }
     }
@@ -108,7 +120,8 @@ fn add_passes(turns: u64, passes: u32) -> u64
 impl Sweeper {
     /// Makes the sweeper of a cycle that begins. The sweeper notes all waiting segments (after `Segments::prepare`, the
     /// segments that the cycle sweeps). It takes room for all names in them and for all names that will be freed, and needs
-    /// no further memory. Its `turns` and `upper_turns` are 0. Takes time proportional to the number of segments.
+    /// no further memory. Its `turns` and `upper_turns` are 0. Takes time proportional to the number of segments up to the
+    /// last waiting one.
     pub fn start(alloc: Global, segments: &Segments, epoch: u8) -> Result<Sweeper, NoMemory>
         requires epoch { IsEpoch epoch }
         ensures begun { IfOk result (λ sweeper. HasBegun segments.now epoch sweeper) }

@@ -36,7 +36,7 @@ fn snapshot_block(segments: &Segments, at: Address) -> Option<(u32, u32)>
     // Note [Lines that do nothing] in `nmgc_alloc`: this gives the prover that all segments are sound.
     let _ = segments.layout();
     let (number, block) = segments.block_at(at)?;
-    if segments.segment(number).in_snapshot(block) {
+    if segments.in_snapshot(number, block) {
         return Some((number, block));
     }
     None
@@ -56,7 +56,7 @@ fn is_marked(segments: &Segments, at: Address, epoch: u8) -> bool
 {
     let _ = segments.layout();
     match segments.block_at(at) {
-        Some((number, block)) => segments.segment(number).is_marked(block, epoch),
+        Some((number, block)) => segments.is_marked(number, block, epoch),
         None => false,
     }
 }

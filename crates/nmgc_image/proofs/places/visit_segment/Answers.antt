@@ -4,12 +4,12 @@ use Rattle.nmgc_image.proofs.places.visit_segment.Goals as goal
 
 pub returns-then-is_free : goal.returns-then-is_free
 returns-then-is_free c = visits_none (IsWeakIn c.args.report.now c.args.number) c.args.search.now c.requires.sound (λ at r.
-    let is : c.segment-segment.result.now.state ≡ state.Free = c.is_free.ensures.0 c.if-is_free.true in
-    absurd (r.1.begins.used (sym (ap (λ (s : Segment). s.state) c.segment-segment.ensures) ∙ is)))
+    let is : c.state.result ≡ state.Free = c.is_free.ensures.0 c.if-is_free.true in
+    absurd (r.1.begins.used (sym c.state.ensures ∙ is)))
 
 pub visit_block-requires-clause-block : goal.visit_block-requires-clause-block
 visit_block-requires-clause-block c =
-    let is = ap (λ (s : Segment). s.state) c.segment-segment.ensures in
+    let is = c.state.ensures in
     let not_free : (nth c.args.report.now.segments.segments c.args.number).state ≢ state.Free = λ e.
     let t : c.is_free.result ≡ true = c.is_free.ensures.1 (is ∙ e) in let f : c.is_free.result ≡ false = c.if-is_free.false in cc in
     let used : InUse (nth c.args.report.now.segments.segments c.args.number) c.loop-block.block =
@@ -18,7 +18,7 @@ visit_block-requires-clause-block c =
 
 pub loop-block-preserved : goal.loop-block-preserved
 loop-block-preserved c =
-    let is = ap (λ (s : Segment). s.state) c.segment-segment.ensures in
+    let is = c.state.ensures in
     let not_free : (nth c.args.report.now.segments.segments c.args.number).state ≢ state.Free = λ e.
     let t : c.is_free.result ≡ true = c.is_free.ensures.1 (is ∙ e) in let f : c.is_free.result ≡ false = c.if-is_free.false in cc in
     elim c.if-in_use.branch [
@@ -52,7 +52,8 @@ loop-block-preserved c =
 pub returns : goal.returns
 returns c = below_all (IsWeakBlock c.args.report.now c.args.number) c.loop-block.block c.args.search.now c.loop-block.search (λ k at h.
     let within = h.begins.within in
-    let same = ap block_count c.segment-segment.ensures in
+    let same : block_count c.segment-segment.result.now ≡ block_count (nth c.args.report.now.segments.segments c.args.number) =
+    ap block_count c.segment-segment.ensures in
     let count = c.blocks-block-end.ensures in
     let all = c.loop-block-test.false in
     omega (arith, within, same, count, all)) c.loop-block.invariant

@@ -52,7 +52,7 @@ loop-block-preserved c =
     let x : Segment = nth c.args.segments.now.segments c.args.number in
     let block = c.loop-block.block in
     let name : ℕ → Option Name = named_at c.args.segments.now.layout c.args.names.now c.args.number x.class in
-    let is : c.segment-segment.result.now ≡ x = c.segment-segment.ensures in
+    let is = c.segment-segment.ensures in
     let at : c.segment_base-base.result + block * c.block_words-size.result ≡ block_place c.args.segments.now.layout c.args.number x.class block =
     placed_at c.args.segments.now.layout c.layout.result c.args.number x.class c.class.result block c.segment_base-base.result
     c.block_words-size.result c.layout.ensures.layout (c.class.ensures ∙

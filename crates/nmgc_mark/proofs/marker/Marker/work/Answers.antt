@@ -1,4 +1,4 @@
-use Rattle.nmgc_mark.proofs.{Vocabulary.◌∙◌, Vocabulary.◌∷◌, Vocabulary.ap, Vocabulary.refl, Vocabulary.subst, Vocabulary.sym, Vocabulary.next_turn, Vocabulary.seen, Vocabulary.Seen, Vocabulary.MarkerSeen, Vocabulary.IsTied, Vocabulary.HasWorked, Vocabulary.marks_seen, Vocabulary.marked_none, Vocabulary.passed_more, Vocabulary.polled_all_none, Vocabulary.polled_all_then, Scanning.begins, Fields.object_marked, Fields.room_taken, Fields.passed_taken, Fields.same_seat, Fields.later_seat, Fields.still_worked}
+use Rattle.nmgc_mark.proofs.{Vocabulary.◌∙◌, Vocabulary.◌∷◌, Vocabulary.ap, Vocabulary.refl, Vocabulary.subst, Vocabulary.sym, Vocabulary.next_turn, Vocabulary.seen, Vocabulary.Seen, Vocabulary.MarkerSeen, Vocabulary.IsTied, Vocabulary.Segments, Vocabulary.HasMarked, Vocabulary.HasWorked, Vocabulary.marks_seen, Vocabulary.marked_none, Vocabulary.passed_more, Vocabulary.polled_all_none, Vocabulary.polled_all_then, Scanning.begins, Fields.object_marked, Fields.room_taken, Fields.passed_taken, Fields.same_seat, Fields.later_seat, Fields.still_worked}
 use Rattle.nmgc_mark.proofs.marker.Marker.work.Goals as goal
 
 pub loop-scanned-init : goal.loop-scanned-init
@@ -6,8 +6,10 @@ loop-scanned-init g c = record {
   worked = record {
     collector = c.requires.collector;
     later = same_seat c.args.seat.now;
-    marked = marked_none c.args.segments.now c.args.self.now c.requires.room;
-    tied = c.requires.tied;
+    marked = subst (λ (s : Segments). HasMarked c.args.segments.now s c.args.self.now c.args.self.now 0) (sym c.catch_up.ensures)
+        (marked_none c.args.segments.now c.args.self.now c.requires.room);
+    tied = subst (λ (s : Segments). IsTied (seen c.args.seat.now).opening (marks_seen (seen c.args.seat.now)) s c.args.self.now)
+        (sym c.catch_up.ensures) c.requires.tied;
   };
   turns = refl;
   polled = polled_all_none c.args.inbox.now;
