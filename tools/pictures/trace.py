@@ -17,7 +17,8 @@ REFUSALS = ("nopointer", "nofield", "wrongkind", "notowner", "fixed", "dead", "n
 
 
 class Debt(NamedTuple):
-    """A name that is due since a line: by which command, from which object it went, from which of its fields, and the line's text."""
+    """A name that is due since a line: by which command, from which object it went, from which of its fields, the line's text, and
+    whether it went into that field instead."""
 
     name: str
     line: int
@@ -26,6 +27,7 @@ class Debt(NamedTuple):
     source: str
     field: Optional[int]
     text: str = ""
+    stored: bool = False
 
 
 class Refusal(NamedTuple):
@@ -56,7 +58,7 @@ class Watch:
     def __init__(self):
         self.phase, self.world, self.snapshot, self.mark_line = "nothing", None, None, 0
         self.debts, self.pushed, self.told_taken, self.opened, self.finalised = [], {}, set(), [], set()
-        self.kept, self.needed, self.refusal = set(), set(), None
+        self.kept, self.needed, self.unscanned, self.refusal = set(), set(), set(), None
         self.text, self.cycles, self.commands, self.pushes, self.dues = "", 0, 0, 0, 0
 
     def event(self, number, text):
@@ -130,10 +132,17 @@ class Watch:
             self.finalised.add(name)
             if len(then) == 4 and then[0] == "weak":
                 kept = [(name, name, None), (then[2], name, 1), (then[3], name, 2)]
-        for target, source, field in lost + opens + kept:
-            if target != "g" and target in self.snapshot.lines:
+        stored = [it for it in _stored(self.world.lines.get(effect.name), effect) if self.may_be_due(it[0])] if mutator in self.unscanned else []
+        self.opened += [target for target, _, _ in stored]
+        for at, (target, source, field) in enumerate(lost + opens + kept + stored):
+            if self.may_be_due(target):
                 self.dues += 1
-                self.debts.append(Debt(target, number, mutator, command, source, field, self.text))
+                is_stored = at >= len(lost + opens + kept)
+                self.debts.append(Debt(target, number, mutator, command, source, field, self.text, is_stored))
+
+    def may_be_due(self, target):
+        """Whether a value is an object of the snapshot, and not g."""
+        return target != "g" and target in self.snapshot.lines
 
     def lost(self, name, effect):
         """The fields of the snapshot that stand in the object, and don't once it has other words."""
@@ -161,11 +170,24 @@ class Watch:
         self.phase, self.world = "between", World(int(rest))
 
     def _mark(self, number, rest, more):
-        if more:
+        if more and rest != "g":
             raise unknown()
         self.in_phase("between", "ended")
         self.phase, self.mark_line, self.snapshot = "marking", number, self.world.copy()
+        self.unscanned = set(range(len(self.world.serials))) if more else set()
+        if more:
+            self.snapshot.registers = [["nil"] * len(row) for row in self.world.registers]
         self.debts, self.pushed, self.told_taken, self.opened, self.finalised = [], {}, set(), [], set()
+
+    def _scan(self, number, rest, more):
+        if not is_number(rest, 256):
+            raise unknown()
+        self.in_phase("marking")
+        self.has_mutator(int(rest))
+        if int(rest) not in self.unscanned:
+            raise Refused("place", "can't stand there")
+        self.unscanned.discard(int(rest))
+        self.opened += [value for value in self.world.registers[int(rest)] if value in self.snapshot.lines]
 
     def _push(self, number, rest, more):
         who, _, name = rest.partition(" ")
@@ -195,6 +217,8 @@ class Watch:
     def _close(self, number, rest, more):
         told = _names(rest) if more else None
         self.in_phase("marking")
+        if self.unscanned:
+            raise Refused("unscanned", f"can't happen: mutator {min(self.unscanned)} wasn't scanned")
         self.pay()
         flying = [name for name in self.pushed if name in self.snapshot.lines and name != "g" and name not in self.told_taken]
         if self.told_taken and flying:
@@ -316,6 +340,15 @@ def _names(rest):
     if not all(is_told_name(name) for name in names):
         raise unknown()
     return names
+
+
+def _stored(before, effect):
+    """The references that a command stores, each with its object and field; `before` has the words of the object, or None."""
+    if effect.words is None:
+        return []
+    then = _strong(before)
+    now = _strong(effect.words) if before is not None or not effect.words.startswith("weak") else dict(enumerate(effect.words.split(" ")[1:]))
+    return [(target, effect.name, field) for field, target in sorted(now.items()) if then.get(field) != target]
 
 
 def _strong(words):

@@ -236,6 +236,8 @@ def why_due(debt):
     """How a command made a name due."""
     if debt.field is None:
         return "it is finalised"
+    if debt.stored:
+        return f"it is stored in field {debt.field} of {debt.source}, before mutator {debt.mutator} was scanned"
     word = debt.command.partition(" ")[0]
     if word == "deref":
         return f"it is read out of {debt.source}"
@@ -253,6 +255,8 @@ def told(watch, now):
         gone = f"Nothing leads to it any more at line {refusal.line}; the rule asks for it all the same."
         held = f"Yet it can still be reached at line {refusal.line}." if now else gone
         source, line = refusal.debt.source, refusal.debt.line
+        if refusal.debt.stored:
+            return f"Line {line} stored {name} in {source}, which a marker may have read already, and nobody remembered it. {held}"
         if refusal.debt.command.startswith(("deref", "finalise")):
             return f"Line {line} took {name} out of the weak pointer {source}, which the marker doesn't follow, and nobody remembered it. {held}"
         return f"A marker that comes to {source} only after line {line} may not find {name} there, and nobody remembered it. {held}"
@@ -264,6 +268,7 @@ def told(watch, now):
         "dead": f"The weak pointer {name} lives as long as its key can be reached.",
         "told": f"What the snapshot leads to, what was read out of a weak pointer and what was pushed has to be marked: {name} among it.",
         "marked": f"Neither the snapshot nor a push leads to {name}.",
+        "unscanned": "The registers of that mutator are roots, and nobody has read them.",
         "untaken": f"{name} was pushed, and it is told what the marker took: so {name} is still on its way, and marking can't end.",
         "new": f"The snapshot has no {name}: it was made later, so the cycle can't have found it to be garbage.",
         "needed": f"The snapshot or a weak pointer that was read leads to {name}, so it can't be freed.",

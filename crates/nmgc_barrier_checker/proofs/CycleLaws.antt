@@ -1,8 +1,13 @@
 -- The facts of a cycle that a command, a push and a take keep.
-use Rattle.nmgc_barrier_checker.proofs.Vocabulary.{◌≡◌, ◌≢◌, ◌<◌, ℕ, List, [], ◌++◌, length, get_or, refl, sym, ap, subst, ◌∙◌, Option, Some, None, Bool, true, false, not, inl, inr, Bor, All, Contains, IsSome, is_some, is_none, option_copied, filter, ◌↔◌, and_cases, and_parts, not-false, Contains-append_left, Contains-append_right, SHARED_MAKER, Name, Value, Command, World, node_of, state_of, IsWorld, is_same_name, CanApply, step, shared_name, IsAlive, opened_by, finalised_by, mark_of, IsMarked, not_shared, Names, step_alive, tested_same, is_same_name-refl, Debt, Cycle, watching, IsPushed, IsTook, Accounts, NameSet, Field, stands_in, IsStanding, kept_then, targets, is_unpaid, unpaid, all_debts, AreAccounts, AreNew, IsOwing, IsListed, Joins, joined, IsCycle, IsTaken, IsUntakenIn, IsUntakenIf, copied_is_some}
+use Rattle.nmgc_barrier_checker.proofs.Vocabulary.{◌≡◌, ◌≢◌, ◌<◌, ℕ, List, [], ◌∷◌, ◌++◌, length, get_or, refl, sym, ap, subst, ◌∙◌, Option, Some, None, Bool, true, false, not, inl, inr, Bor, All, Contains, IsSome, is_some, is_none, option_copied, filter, ◌↔◌, and_cases, and_parts, not-false, Contains-append_left, Contains-append_right, SHARED_MAKER, Name, Value, Command, World, node_of, state_of, IsWorld, is_same_name, CanApply, step, shared_name, IsAlive, opened_by, finalised_by, mark_of, IsMarked, not_shared, Names, step_alive, tested_same, is_same_name-refl, Debt, Cycle, watching, IsPushed, IsTook, Accounts, NameSet, Field, stands_in, IsStanding, kept_then, targets, is_unpaid, unpaid, all_debts, AreAccounts, AreNew, IsOwing, IsListed, Joins, joined, IsCycle, IsTaken, IsUntakenIn, IsUntakenIf, copied_is_some, Contains-append_cases, filter_contains, contains_filter, replicate, map, MutatorState}
 use Rattle.nmgc_world_spec.specs.declared.value.Value.TheVariants as value
-use Rattle.nmgc_barrier_checker.specs.declared.event.Why.TheVariants as why
-use Rattle.nmgc_barrier_checker.proofs.{Filters.kept_in, Filters.in_kept, AccountLaws.StandsIn, AccountLaws.stands, AccountLaws.new_debts, DueLaws.found_due, DueLaws.due_found, ListedLaws.listed_there, ListedLaws.joined_is, ListedLaws.joined_names, ListedLaws.joined_keeps, ListedLaws.joined_marks, ListedLaws.joined_marked}
+use Rattle.nmgc_lists.specs.laws.Items.{nothing_in}
+use Rattle.std.proofs.lemmas.List.{length-map}
+use Rattle.nmgc_graph.specs.{Bare.cleared, Bare.without_registers, laws.Bare.bare_node}
+use Rattle.nmgc_snapshot_laws.specs.Machine.{is_pushed_in}
+use Rattle.nmgc_barrier_laws.specs.Hybrid.{Hybrid, hide, bare, IsDueIn}
+use Rattle.nmgc_barrier_checker.specs.{Dues.IsComing, Cycles.IsSnapshotOf, Cycles.with_scans}
+use Rattle.nmgc_barrier_checker.proofs.{Filters.kept_in, Filters.in_kept, AccountLaws.StandsIn, AccountLaws.stands, AccountLaws.new_debts, DueLaws.found_due, DueLaws.due_found, DueLaws.is_owable_by, Handed.handed, Handed.found_handed, Handed.handed_found, ListedLaws.listed_there, ListedLaws.joined_is, ListedLaws.joined_names, ListedLaws.joined_keeps, ListedLaws.joined_marks, ListedLaws.joined_marked}
 
 pub not_both : (b : Bool) → b ≡ true → not b ≡ true → ⊥
 not_both true e f = cc
@@ -25,10 +30,47 @@ seen w s remembered accounts opened taken finalised = record {
 }
 
 -- at the beginning
-pub new_seen : (w v s : World) (remembered opened taken : NameSet) (accounts : Accounts) (finalised : List Name) → v ≡ w → s ≡ w →
-    remembered.names ≡ [] → opened.names ≡ [] → taken.names ≡ [] → finalised ≡ [] → AreNew w accounts →
-    seen v s remembered accounts opened taken finalised ≡ watching w
-new_seen w v s remembered opened taken accounts finalised a b r o t f n = rw (a, b, r, o, t, f, new_debts w remembered.set accounts n) refl
+pub new_seen : (w v s : World) (remembered opened taken : NameSet) (accounts : Accounts) (finalised : List Name) → v ≡ w →
+    remembered.names ≡ [] → opened.names ≡ [] → taken.names ≡ [] → finalised ≡ [] → AreNew s accounts →
+    seen v s remembered accounts opened taken finalised ≡ record (watching w) { snapshot = s }
+new_seen w v s remembered opened taken accounts finalised a r o t f n = rw (a, r, o, t, f, new_debts s remembered.set accounts n) refl
+
+new_accounts : (marks : List (List Bool)) (s : World) (a : Accounts) → AreNew s a → AreAccounts marks s a
+new_accounts marks s a n = record {
+  sets = n.sets ∙ sym n.count;
+  places = λ m lt. n.places m (subst (λ (k : ℕ). m < k) n.count lt);
+  own = λ m d c. absurd (nothing_in d (subst (λ (l : List Debt). Contains l d) (n.queues m) c));
+  there = λ m d c. absurd (nothing_in d (subst (λ (l : List Debt). Contains l d) (n.queues m) c));
+  owes = λ m name c. absurd (let bad : false ≡ true = sym (n.free m name) ∙ c in cc);
+}
+
+pub new_cycle : (w s : World) (remembered opened taken : NameSet) (accounts : Accounts) (finalised : List Name) → IsSnapshotOf w s → IsWorld w → IsWorld s →
+    IsListed s remembered → IsListed s opened → IsListed s taken → AreNew s accounts → IsCycle w s remembered accounts opened taken finalised
+new_cycle w s remembered opened taken accounts finalised h is_w is_s r o t n = record {
+  remembered = r;
+  opened = o;
+  taken = t;
+  accounts = new_accounts remembered.set s accounts n;
+  count = n.count ∙ h.count;
+  alive = λ weak parts a not. sym (h.nodes weak) ∙ a;
+  snapshot = is_s;
+  world = is_w;
+}
+
+-- the world without registers is a snapshot of the world
+nils : (values : List Value) → replicate (length values) value.Nil ≡ map (λ (v : Value). value.Nil) values
+nils [] = refl
+nils (v ∷ values) = ap (λ (l : List Value). value.Nil ∷ l) (nils values)
+
+bare_states : (states : List MutatorState) → map cleared states ≡ hide (λ k. false) states
+bare_states [] = refl
+bare_states (state ∷ states) = rw (nils state.registers, bare_states states) refl
+
+pub is_bare : (w : World) → without_registers w ≡ bare w
+is_bare w = ap (λ (states : List MutatorState). record w { mutators = states }) (bare_states w.mutators)
+
+pub bare_snapshot : (w : World) → IsSnapshotOf w (without_registers w)
+bare_snapshot w = record { count = length-map w.mutators cleared; nodes = bare_node w }
 
 -- with other debts but the same unpaid debts
 pub seen_same : (w s : World) (remembered : NameSet) (accounts accounts' : Accounts) (opened taken : NameSet) (finalised : List Name) →
@@ -196,37 +238,70 @@ module _ (w s : World) (remembered : NameSet) (accounts : Accounts) (opened take
   not_pushed name free c = let m : mark_of remembered.set name ≡ true = (k.remembered.same name).1 c in let bad : true ≡ false = sym m ∙ free in cc
 
   -- a command: the names found due are owed from then on
-  module _ (line m : ℕ) (c : Command) (can : CanApply w m c) (fields : List Field) (f : IsStanding s w m c fields) where
+  module _ (scans : List Bool) (line m : ℕ) (c : Command) (can : CanApply w m c) (fields : List Field) (coming : Option Field)
+      (f : IsStanding s w m c fields) (comes : IsComing w m c coming) where
     own : m ≢ SHARED_MAKER
     own = not_shared w m k.world can.mutator
+
+    abbrev before : Hybrid
+    before = with_scans scans (seen w s remembered accounts opened taken finalised)
 
     abbrev found : List Name
     found = targets (filter (λ g. not (stands_in (step w m c).0 g)) fields) ++ (opened_by w m c ++ kept_then s (finalised_by w m c))
 
-    pub taken_then : (v : World) (accounts' : Accounts) (opened' : NameSet) (finalised' names : List Name) → v ≡ (step w m c).0 →
-        Joins s opened.names (opened_by w m c) opened'.names → finalised' ≡ finalised ++ finalised_by w m c → names ≡ found →
-        IsOwing s remembered.set line m names accounts accounts' →
-        IsTaken line m c (seen w s remembered accounts opened taken finalised) (seen v s remembered accounts' opened' taken finalised')
-    taken_then v accounts' opened' finalised' names e j g n o' = record {
+    abbrev given_out : List Name
+    given_out = handed before m c k.world can coming comes
+
+    due_of : (t : Name) → Contains (filter (is_pushed_in s) (found ++ given_out)) t → IsDueIn before m c t
+    due_of t x =
+        let p : Contains (found ++ given_out) t × (is_pushed_in s t ≡ true) = filter_contains (is_pushed_in s) (found ++ given_out) t x in
+        elim (Contains-append_cases found given_out t p.0) [
+          | inl a ↦ inl (found_due s w m c can.mutator own fields f t (contains_filter (is_pushed_in s) found t a p.1))
+          | inr b ↦ inr (found_handed before m c k.world can coming comes t b)
+        ]
+
+    of_due : (t : Name) → IsDueIn before m c t → Contains (filter (is_pushed_in s) (found ++ given_out)) t
+    of_due t (inl d) =
+        let p : Contains found t × (is_pushed_in s t ≡ true) =
+        filter_contains (is_pushed_in s) found t (due_found s w m c can.mutator own fields f t d) in
+        contains_filter (is_pushed_in s) (found ++ given_out) t (Contains-append_left found given_out t p.0) p.1
+    of_due t (inr d) = contains_filter (is_pushed_in s) (found ++ given_out) t
+        (Contains-append_right found given_out t (handed_found before m c k.world can coming comes t d)) (is_owable_by s t d.there d.own)
+
+    pub taken_then : (v : World) (accounts' : Accounts) (opened' opened'' : NameSet) (finalised' names : List Name) → v ≡ (step w m c).0 →
+        Joins s opened.names (opened_by w m c) opened'.names → Joins s opened'.names given_out opened''.names → finalised' ≡ finalised ++ finalised_by w m c →
+        names ≡ found ++ given_out → IsOwing s remembered.set line m names accounts accounts' →
+        IsTaken line m c before (with_scans scans (seen v s remembered accounts' opened'' taken finalised'))
+    taken_then v accounts' opened' opened'' finalised' names e j j' g n o' = record {
       can = can;
       says = refl;
       rest = rw (e, g) refl;
-      opened = j;
+      opened = λ name. (
+        λ x. elim ((j' name).0 x) [
+          | inl old ↦ elim ((j name).0 old) [ inl was ↦ inl was | inr new ↦ inr (inl new) ]
+          | inr p ↦ inr (inr (found_handed before m c k.world can coming comes name p.0))
+        ],
+        λ x. elim x [
+          | inl was ↦ (j' name).1 (inl ((j name).1 (inl was)))
+          | inr (inl new) ↦ (j' name).1 (inl ((j name).1 (inr new)))
+          | inr (inr d) ↦ (j' name).1 (inr (handed_found before m c k.world can coming comes name d, d.there))
+        ],
+      );
       old = o.old;
       new = λ d x. elim (o.new d x) [
         | inl old ↦ inl old
         | inr p ↦ inr (
           p.0,
           p.1,
-          found_due s w m c can.mutator own fields f d.name p.2,
+          due_of d.name p.2,
           λ r. not_both (mark_of remembered.set d.name) ((k.remembered.same d.name).1 r)
               (in_kept (is_unpaid remembered.set) (all_debts accounts'.debts) d x).1,
         )
       ];
-      due = λ t d. elim (o.due t (due_found s w m c can.mutator own fields f t d)) [ inl marked ↦ inl ((k.remembered.same t).0 marked) | inr p ↦ inr p ];
+      due = λ t d. elim (o.due t (of_due t d)) [ inl marked ↦ inl ((k.remembered.same t).0 marked) | inr p ↦ inr p ];
     }
       where
-        o : IsOwing s remembered.set line m found accounts accounts'
+        o : IsOwing s remembered.set line m (found ++ given_out) accounts accounts'
         o = subst (λ (l : List Name). IsOwing s remembered.set line m l accounts accounts') n o'
 
 pub not_none_there : {A : Type 0} (r : Option (Bor A)) (o : Option A) → option_copied r ≡ o → is_none r ≡ false → IsSome o

@@ -91,7 +91,7 @@ owable_is snapshot t h = by_tests (is_some (node_of snapshot t)) (is_same_name t
     by_tests true true e f k = absurd cc
     by_tests false b e f k = absurd cc
 
-is_owable_by : (snapshot : World) (t : Name) → IsSome (node_of snapshot t) → t ≢ shared_name → is_pushed_in snapshot t ≡ true
+pub is_owable_by : (snapshot : World) (t : Name) → IsSome (node_of snapshot t) → t ≢ shared_name → is_pushed_in snapshot t ≡ true
 is_owable_by snapshot t there own = by_tests (is_some (node_of snapshot t)) (is_same_name t shared_name) refl refl
   where
     by_tests : (a b : Bool) → is_some (node_of snapshot t) ≡ a → is_same_name t shared_name ≡ b → (a && not b) ≡ true

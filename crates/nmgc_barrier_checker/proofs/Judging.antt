@@ -1,16 +1,17 @@
 -- Every event can happen or has a reason.
-use Rattle.nmgc_barrier_checker.proofs.Vocabulary.{◌≡◌, ◌≢◌, ◌<◌, ◌≤◌, ℕ, List, [], ◌∷◌, ◌++◌, length, map, refl, sym, ap, subst, ◌∙◌, arith, Bool, true, false, not, cond, inl, inr, ◌⊎◌, eqb, Contains, IsSome, is_some, filter, ◌&&◌, ◌↔◌, cases_Bool, cases_lt, false≢true, and_cases, and_parts, and_from, not-false, eqb-true, eq-eqb, Contains-append_left, Contains-append_right, Contains-append_cases, Name, MutatorState, Command, Reply, is_same_name, World, node_of, IsWorld, step, shared_name, Parts, IsAlive, IsDead, IsKept, Lists, closed, contains_head, contains_tail, contains_cases, nothing_in, one_is, contains_one, step_keeps_world, is_listed, tested_same, is_same_name-refl, contains_listed, not_listed, listed_from, Debt, Cycle, watching, IsWatched, IsPushed, IsAllTaken, IsDeadAmong, Event, Why, CycleResult, Watch, IsUntakenName, IsTaken, keys_then, IsOpenedWith, is_done, CanAct, WhyNoAct, AreDone, StopsAt, mutators_of, IsAbsent, IsAgainst, IsLeft, IsResultWith, is_old, MayFree, WhyKept, Can, IsWhy, AreClosed, EveryEventIsJudged, alive_there}
+use Rattle.nmgc_barrier_checker.proofs.Vocabulary.{◌≡◌, ◌≢◌, ◌<◌, ◌≤◌, ℕ, List, [], ◌∷◌, ◌++◌, length, map, refl, sym, ap, subst, ◌∙◌, arith, Bool, true, false, not, cond, inl, inr, ◌⊎◌, eqb, Contains, IsSome, is_some, filter, ◌&&◌, ◌↔◌, cases_Bool, cases_lt, false≢true, and_cases, and_parts, and_from, not-false, eqb-true, eq-eqb, Contains-append_left, Contains-append_right, Contains-append_cases, Name, MutatorState, Command, Reply, is_same_name, World, node_of, IsWorld, step, shared_name, Parts, IsAlive, IsDead, IsKept, Lists, closed, contains_head, contains_tail, contains_cases, nothing_in, one_is, contains_one, step_keeps_world, is_listed, tested_same, is_same_name-refl, contains_listed, not_listed, listed_from, Debt, Cycle, IsPushed, IsAllTaken, IsDeadAmong, Event, Why, CycleResult, Watch, IsUntakenName, IsTaken, keys_then, IsOpenedWith, is_done, CanAct, WhyNoAct, AreDone, StopsAt, mutators_of, IsAbsent, IsAgainst, IsLeft, IsResultWith, is_old, MayFree, WhyKept, Can, IsWhy, AreClosed, EveryEventIsJudged, alive_there, Hybrid, AreScanned, IsWatchedIn, IsScanned, beginning, held_names, is_scanned, scanned_at_once, zero, suc, cases_eq, slice_set, IsTook}
 use Rattle.nmgc_barrier_checker.specs.declared.event.Event.TheVariants as event
 use Rattle.nmgc_barrier_checker.specs.declared.event.Why.TheVariants as why
 use Rattle.nmgc_barrier_checker.specs.declared.watch.Watch.TheVariants as watch
+use Rattle.nmgc_barrier_checker.specs.Watching.{IsNotDead}
 use Rattle.nmgc_barrier_checker.proofs.{Filters.kept_in, Filters.in_kept, ClosingLaws.keys_are, ClosingLaws.dead_named, ClosingLaws.needs_listed, CycleLaws.not_both, CycleLaws.not_so, Deciding.Decided, Deciding.search, Deciding.all_names, Deciding.listed, Living.dead_decided, Living.dead_listed, Living.kept_listed, Watched.can_cases, Watched.reply_cases, Watched.after, Watched.watched}
 
 -- an event at a line, at some state of the watch
 abbrev Judged : ℕ → Watch → Event → Type 0
 Judged line p e = ((next : Watch) × Can line p e next) ⊎ ((y : Why) × IsWhy p e y)
 
-with_answer : (line m : ℕ) (c : Command) (answer : Reply) (h next : Cycle) → IsTaken line m c h next → (step h.world m c).1 ≡ answer →
-    IsWatched h line m c answer next
+with_answer : (line m : ℕ) (c : Command) (answer : Reply) (h next : Hybrid) → IsTaken line m c h next → (step h.watch.world m c).1 ≡ answer →
+    IsWatchedIn h line m c answer next
 with_answer line m c answer h next t e = record { can = t.can; says = e; rest = t.rest; opened = t.opened; old = t.old; new = t.new; due = t.due }
 
 -- a command
@@ -22,13 +23,13 @@ given line m c answer (watch.Between w) is = elim (can_cases w m c) [
   ]
   | inr never ↦ inr (why.CannotApply, never)
 ]
-given line m c answer (watch.Marking h) is = elim (can_cases h.world m c) [
-  | inl can ↦ elim (reply_cases (step h.world m c).1 answer) [
+given line m c answer (watch.Marking h) is = elim (can_cases h.watch.world m c) [
+  | inl can ↦ elim (reply_cases (step h.watch.world m c).1 answer) [
     | inl e ↦ inl (
       watch.Marking (after h is.0 line m c can),
       (after h is.0 line m c can, with_answer line m c answer h (after h is.0 line m c can) (watched h is.0 line m c can) e, refl),
     )
-    | inr ne ↦ inr (why.Answer (step h.world m c).1, (can, refl, ne))
+    | inr ne ↦ inr (why.Answer (step h.watch.world m c).1, (can, refl, ne))
   ]
   | inr never ↦ inr (why.CannotApply, never)
 ]
@@ -50,10 +51,10 @@ acts line m c (watch.Between w) is = elim (can_cases w m c) [
   ]
   | inr never ↦ inr (why.CannotApply, never)
 ]
-acts line m c (watch.Marking h) is = elim (can_cases h.world m c) [
-  | inl can ↦ elim (cases_Bool (is_done (step h.world m c).1)) [
+acts line m c (watch.Marking h) is = elim (can_cases h.watch.world m c) [
+  | inl can ↦ elim (cases_Bool (is_done (step h.watch.world m c).1)) [
     | inl done ↦ inl (watch.Marking (after h is.0 line m c can), (after h is.0 line m c can, watched h is.0 line m c can, done, refl))
-    | inr undone ↦ inr (why.Answer (step h.world m c).1, (can, refl, undone))
+    | inr undone ↦ inr (why.Answer (step h.watch.world m c).1, (can, refl, undone))
   ]
   | inr never ↦ inr (why.CannotApply, never)
 ]
@@ -69,8 +70,8 @@ acts line m c watch.Stopped is = inr (why.Misplaced, refl)
 still_closed : (line m : ℕ) (c : Command) (p next : Watch) → AreClosed p → CanAct line m c p next → AreClosed next
 still_closed line m c (watch.Between w) next is a = subst AreClosed (sym a.2) (subst IsWorld (sym a.1.2) (step_keeps_world w m c is a.1.0))
 still_closed line m c (watch.Marking h) next is a = subst AreClosed (sym a.3) (
-  subst IsWorld (sym (ap (λ (k : Cycle). k.world) a.1.rest)) (step_keeps_world h.world m c is.0 a.1.can),
-  subst IsWorld (sym (ap (λ (k : Cycle). k.snapshot) a.1.rest)) is.1,
+  subst IsWorld (sym (ap (λ (k : Hybrid). k.watch.world) a.1.rest)) (step_keeps_world h.watch.world m c is.0 a.1.can),
+  subst IsWorld (sym (ap (λ (k : Hybrid). k.watch.snapshot) a.1.rest)) is.1,
 )
 still_closed line m c (watch.Ended left) next is a = subst AreClosed (sym a.2) (subst IsWorld (sym a.1.2) (step_keeps_world left.world m c is a.1.0))
 still_closed line m c watch.Stopped next is a = absurd a
@@ -112,10 +113,56 @@ rows line m commands watch.Stopped is = inr (why.Misplaced, (line, watch.Stopped
 
 -- marking begins
 mark : (line : ℕ) (p : Watch) → Judged line p event.Mark
-mark line (watch.Between w) = inl (watch.Marking (watching w), refl)
+mark line (watch.Between w) = inl (watch.Marking (scanned_at_once w), refl)
 mark line (watch.Marking h) = inr (why.Misplaced, refl)
-mark line (watch.Ended left) = inl (watch.Marking (watching left.world), refl)
+mark line (watch.Ended left) = inl (watch.Marking (scanned_at_once left.world), refl)
 mark line watch.Stopped = inr (why.Misplaced, refl)
+
+mark_shared : (line : ℕ) (p : Watch) → Judged line p event.MarkShared
+mark_shared line (watch.Between w) = inl (watch.Marking (beginning w), refl)
+mark_shared line (watch.Marking h) = inr (why.Misplaced, refl)
+mark_shared line (watch.Ended left) = inl (watch.Marking (beginning left.world), refl)
+mark_shared line watch.Stopped = inr (why.Misplaced, refl)
+
+-- a scan of a mutator
+module _ (h : Hybrid) (m : ℕ) where
+  abbrev there : Name → Bool
+  there n = is_some (node_of h.watch.snapshot n)
+
+  abbrev holds : List Name
+  holds = filter there (held_names h.watch.world m)
+
+  abbrev scanned_next : Hybrid
+  scanned_next = record { watch = record h.watch { opened = h.watch.opened ++ holds }; scanned = slice_set h.scanned m true }
+
+  scanned : m < length h.watch.world.mutators → is_scanned h m ≡ false → IsScanned h m scanned_next
+  scanned lt first = record {
+    mutator = lt;
+    first = first;
+    rest = refl;
+    opened = λ n. (
+      λ k. elim (Contains-append_cases h.watch.opened holds n k) [
+        | inl old ↦ inl old
+        | inr new ↦ inr (in_kept there (held_names h.watch.world m) n new)
+      ],
+      λ k. elim k [
+        | inl old ↦ Contains-append_left h.watch.opened holds n old
+        | inr new ↦ Contains-append_right h.watch.opened holds n (kept_in there (held_names h.watch.world m) n new.0 new.1)
+      ],
+    );
+  }
+
+scan : (line m : ℕ) (p : Watch) → Judged line p (event.Scan m)
+scan line m (watch.Between w) = inr (why.Misplaced, refl)
+scan line m (watch.Marking h) = elim (cases_lt m (length h.watch.world.mutators)) [
+  | inl lt ↦ elim (cases_Bool (is_scanned h m)) [
+    | inl t ↦ inr (why.Misplaced, inr (refl, t))
+    | inr f ↦ inl (watch.Marking (scanned_next h m), (scanned_next h m, scanned h m lt f, refl))
+  ]
+  | inr le ↦ inr (why.CannotApply, inl (refl, λ lt. let l : m < length h.watch.world.mutators = lt in omega arith))
+]
+scan line m (watch.Ended left) = inr (why.Misplaced, refl)
+scan line m watch.Stopped = inr (why.Misplaced, refl)
 
 -- a push
 module _ (h : Cycle) (name : Name) where
@@ -172,9 +219,12 @@ module _ (h : Cycle) (name : Name) where
 
 push : (line : ℕ) (name : Name) (p : Watch) → Judged line p (event.Push name)
 push line name (watch.Between w) = inr (why.Misplaced, refl)
-push line name (watch.Marking h) = elim (cases_Bool (is_some (node_of h.world name))) [
-  | inl t ↦ inl (watch.Marking (pushed_next h name), (pushed_next h name, pushed h name t, refl))
-  | inr f ↦ inr (why.NoSuchName name, (refl, λ there. let t : is_some (node_of h.world name) ≡ true = there in false≢true (sym f ∙ t)))
+push line name (watch.Marking h) = elim (cases_Bool (is_some (node_of h.watch.world name))) [
+  | inl t ↦ inl (
+    watch.Marking (record h { watch = pushed_next h.watch name }),
+    (pushed_next h.watch name, pushed h.watch name t, refl),
+  )
+  | inr f ↦ inr (why.NoSuchName name, (refl, λ there. let t : is_some (node_of h.watch.world name) ≡ true = there in false≢true (sym f ∙ t)))
 ]
 push line name (watch.Ended left) = inr (why.Misplaced, refl)
 push line name watch.Stopped = inr (why.Misplaced, refl)
@@ -182,40 +232,38 @@ push line name watch.Stopped = inr (why.Misplaced, refl)
 -- a mutator that has settled
 settle : (line m : ℕ) (p : Watch) → Judged line p (event.Settle m)
 settle line m (watch.Between w) = inr (why.Misplaced, refl)
-settle line m (watch.Marking h) = elim (cases_lt m (length h.world.mutators)) [
-  | inl lt ↦ elim (search (λ (d : Debt). eqb d.mutator m) h.debts) [
+settle line m (watch.Marking h) = elim (cases_lt m (length h.watch.world.mutators)) [
+  | inl lt ↦ elim (search (λ (d : Debt). eqb d.mutator m) h.watch.debts) [
     | inl f ↦ inr (why.Due f.0, inl (f.0, refl, f.1, eqb-true f.0.mutator m f.2))
     | inr none ↦ inl (watch.Marking h, ((lt, λ d c own. false≢true (sym (none d c) ∙ eq-eqb d.mutator m own)), refl))
   ]
-  | inr le ↦ inr (why.CannotApply, inr (refl, λ lt. let l : m < length h.world.mutators = lt in omega arith))
+  | inr le ↦ inr (why.CannotApply, inr (refl, λ lt. let l : m < length h.watch.world.mutators = lt in omega arith))
 ]
 settle line m (watch.Ended left) = inr (why.Misplaced, refl)
 settle line m watch.Stopped = inr (why.Misplaced, refl)
 
 -- a take
+took : (h : Cycle) (name : Name) → Contains h.remembered name → IsTook h name (record h { taken = h.taken ++ name ∷ [] })
+took h name pushed = record {
+  pushed = pushed;
+  rest = refl;
+  taken = λ n. (
+    λ c. elim (Contains-append_cases h.taken (name ∷ []) n c) [ inl old ↦ inl old | inr new ↦ inr (sym (one_is name n new)) ],
+    λ c. elim c [
+      | inl old ↦ Contains-append_left h.taken (name ∷ []) n old
+      | inr e ↦ Contains-append_right h.taken (name ∷ []) n (subst (λ (x : Name). Contains (name ∷ []) x) (sym e) (contains_one name))
+    ],
+  );
+}
+
 take : (line : ℕ) (name : Name) (p : Watch) → Judged line p (event.Take name)
 take line name (watch.Between w) = inr (why.Misplaced, refl)
-take line name (watch.Marking h) = elim (cases_Bool (is_listed name h.remembered)) [
+take line name (watch.Marking h) = elim (cases_Bool (is_listed name h.watch.remembered)) [
   | inl t ↦ inl (
-    watch.Marking (record h { taken = h.taken ++ name ∷ [] }),
-    (
-      record h { taken = h.taken ++ name ∷ [] },
-      record {
-        pushed = contains_listed name h.remembered t;
-        rest = refl;
-        taken = λ n. (
-          λ c. elim (Contains-append_cases h.taken (name ∷ []) n c) [ inl old ↦ inl old | inr new ↦ inr (sym (one_is name n new)) ],
-          λ c. elim c [
-            | inl old ↦ Contains-append_left h.taken (name ∷ []) n old
-            | inr e ↦
-                Contains-append_right h.taken (name ∷ []) n (subst (λ (x : Name). Contains (name ∷ []) x) (sym e) (contains_one name))
-          ],
-        );
-      },
-      refl,
-    ),
+    watch.Marking (record h { watch = record h.watch { taken = h.watch.taken ++ name ∷ [] } }),
+    (record h.watch { taken = h.watch.taken ++ name ∷ [] }, took h.watch name (contains_listed name h.watch.remembered t), refl),
   )
-  | inr f ↦ inr (why.NotPushed name, (refl, not_listed name h.remembered f))
+  | inr f ↦ inr (why.NotPushed name, (refl, not_listed name h.watch.remembered f))
 ]
 take line name (watch.Ended left) = inr (why.Misplaced, refl)
 take line name watch.Stopped = inr (why.Misplaced, refl)
@@ -355,36 +403,65 @@ module _ (h : Cycle) (is : IsWorld h.snapshot) where
         },
       )
 
+-- all mutators are scanned, or some mutator isn't
+scanned_below : (h : Hybrid) (n : ℕ) → ((k : ℕ) → k < n → is_scanned h k ≡ true) ⊎ ((k : ℕ) × (k < n) × (is_scanned h k ≡ false))
+scanned_below h zero = inl (λ k lt. absurd (let l : k < 0 = lt in omega arith))
+scanned_below h (suc n) = elim (scanned_below h n) [
+  | inr p ↦ inr (p.0, (let l : p.0 < n = p.1 in omega arith), p.2)
+  | inl all ↦ elim (cases_Bool (is_scanned h n)) [
+    | inl t ↦ inl (λ k lt. elim (cases_eq k n) [
+      | inl e ↦ subst (λ (j : ℕ). is_scanned h j ≡ true) (sym e) t
+      | inr ne ↦ all k (let l : k < suc n = lt in omega (arith, ne))
+    ])
+    | inr f ↦ inr (n, omega arith, f)
+  ]
+]
+
+scanned_cases : (h : Hybrid) → AreScanned h ⊎ ((k : ℕ) × (k < length h.watch.world.mutators) × (is_scanned h k ≡ false))
+scanned_cases h = scanned_below h (length h.watch.world.mutators)
+
 close : (line : ℕ) (p : Watch) → AreClosed p → Judged line p event.Close
 close line (watch.Between w) is = inr (why.Misplaced, refl)
-close line (watch.Marking h) is = elim (against h) [
-  | inl p ↦ let e : (left : CycleResult) × IsLeft h left = ends h is.1 p.0 p.1 in inl (watch.Ended e.0, (e.0, e.1, refl))
-  | inr r ↦ inr (r.0, r.1)
+close line (watch.Marking h) is = elim (scanned_cases h) [
+  | inr u ↦ inr (why.Unscanned u.0, inl (u.0, refl, u.1, u.2))
+  | inl all ↦ elim (against h.watch) [
+    | inl p ↦ let e : (left : CycleResult) × IsLeft h.watch left = ends h.watch is.1 p.0 p.1 in inl (watch.Ended e.0, (e.0, e.1, refl, all))
+    | inr r ↦ inr (r.0, inr r.1)
+  ]
 ]
 close line (watch.Ended left) is = inr (why.Misplaced, refl)
 close line watch.Stopped is = inr (why.Misplaced, refl)
 
+-- an end at which exactly these die: it can happen, or one of them isn't dead
+with_deaths : (h : Cycle) → IsWorld h.snapshot → (named : List Name) → h.debts ≡ [] → IsAllTaken h →
+    ((left : CycleResult) × IsResultWith h named left) ⊎ ((y : Why) × IsNotDead h named y)
+with_deaths h is named none taken =
+    let names : (names : List Name) × IsOpenedWith h named names = with_keys h named in
+    let d : Decided (IsDead h.snapshot names.0 h.finalised) = dead_decided h.snapshot is names.0 h.finalised in
+    elim (search (λ n. not (d.test n)) named) [
+      | inl f ↦ inr (
+        why.NotDead f.0,
+        (
+          f.0,
+          refl,
+          f.1,
+          λ dead. let bad : not true ≡ true = subst (λ (b : Bool). not b ≡ true) (d.no f.0 ((dead_named h named names.0 names.1 f.0).1 dead)) f.2 in cc,
+        ),
+      )
+      | inr all ↦ inl (ends_known h is none taken named (λ n c. (dead_named h named names.0 names.1 n).0 (d.yes n (not-false (d.test n) (all n c)))))
+    ]
+
 close_with : (line : ℕ) (named : List Name) (p : Watch) → AreClosed p → Judged line p (event.CloseWith named)
 close_with line named (watch.Between w) is = inr (why.Misplaced, refl)
-close_with line named (watch.Marking h) is = elim (against h) [
-  | inl p ↦
-      let names : (names : List Name) × IsOpenedWith h named names = with_keys h named in
-      let d : Decided (IsDead h.snapshot names.0 h.finalised) = dead_decided h.snapshot is.1 names.0 h.finalised in
-      elim (search (λ n. not (d.test n)) named) [
-        | inl f ↦ inr (
-          why.NotDead f.0,
-          inr (
-            f.0,
-            refl,
-            f.1,
-            λ dead. let bad : not true ≡ true = subst (λ (b : Bool). not b ≡ true) (d.no f.0 ((dead_named h named names.0 names.1 f.0).1 dead)) f.2 in cc,
-          ),
-        )
-        | inr none ↦ let e : (left : CycleResult) × IsResultWith h named left = ends_known h is.1 p.0 p.1 named (λ n c.
-            (dead_named h named names.0 names.1 n).0 (d.yes n (not-false (d.test n) (none n c)))) in
-            inl (watch.Ended e.0, (e.0, e.1, refl))
-      ]
-  | inr r ↦ inr (r.0, inl r.1)
+close_with line named (watch.Marking h) is = elim (scanned_cases h) [
+  | inr u ↦ inr (why.Unscanned u.0, inl (u.0, refl, u.1, u.2))
+  | inl all ↦ elim (against h.watch) [
+    | inl p ↦ elim (with_deaths h.watch is.1 named p.0 p.1) [
+      | inl e ↦ inl (watch.Ended e.0, (e.0, e.1, refl, all))
+      | inr d ↦ inr (d.0, inr (inr d.1))
+    ]
+    | inr r ↦ inr (r.0, inr (inl r.1))
+  ]
 ]
 close_with line named (watch.Ended left) is = inr (why.Misplaced, refl)
 close_with line named watch.Stopped is = inr (why.Misplaced, refl)
@@ -449,6 +526,8 @@ pub every_event_is_judged : EveryEventIsJudged
 every_event_is_judged line p (event.Given m c answer) is = given line m c answer p is
 every_event_is_judged line p (event.Rows m commands) is = rows line m commands p is
 every_event_is_judged line p event.Mark is = mark line p
+every_event_is_judged line p event.MarkShared is = mark_shared line p
+every_event_is_judged line p (event.Scan m) is = scan line m p
 every_event_is_judged line p (event.Push name) is = push line name p
 every_event_is_judged line p (event.Settle m) is = settle line m p
 every_event_is_judged line p (event.Take name) is = take line name p

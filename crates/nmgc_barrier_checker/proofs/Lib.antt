@@ -5,13 +5,16 @@ pub mod CycleLaws
 pub mod Deciding
 pub mod DueLaws
 pub mod Filters
+pub mod Handed
 pub mod Judging
 pub mod ListedLaws
 pub mod Living
 pub mod Needing
 pub mod OrderedLaws
+pub mod Queues
 pub mod Reasons
 pub mod RowLaws
+pub mod RunningLaws
 pub mod Standing
 pub mod Watched
 mod Vocabulary

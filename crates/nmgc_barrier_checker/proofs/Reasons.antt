@@ -1,8 +1,10 @@
 -- An event with a reason can't happen.
-use Rattle.nmgc_barrier_checker.proofs.Vocabulary.{◌≡◌, ℕ, List, [], sym, subst, ◌∙◌, inl, inr, Contains, Name, Command, Reply, World, CanApply, step, Lists, nothing_in, Debt, Cycle, MarksName, IsAllTaken, barrier_theorem, Event, Why, CycleResult, Watch, IsWhyNot, WhyGive, CanGive, WhyMark, CanMark, WhyPush, CanPush, WhySettle, CanSettle, WhyTake, CanTake, WhyClose, CanClose, WhyCloseWith, CanCloseWith, WhyMarked, CanMarked, WhyFreed, CanFreed, WhyKept, MayFree, IsAgainst, WhyStop, CanStop, ReasonsRefuse, ClosedIsExact}
+use Rattle.nmgc_barrier_checker.proofs.Vocabulary.{◌≡◌, ℕ, List, [], sym, subst, ◌∙◌, inl, inr, Contains, Name, Command, Reply, World, CanApply, step, Lists, nothing_in, Debt, Cycle, MarksName, IsAllTaken, barrier_theorem, Why, CycleResult, Watch, IsWhyNot, WhyGive, CanGive, WhyMark, CanMark, WhyPush, CanPush, WhySettle, CanSettle, WhyTake, CanTake, WhyClose, CanClose, WhyCloseWith, CanCloseWith, WhyMarked, CanMarked, WhyFreed, CanFreed, WhyKept, MayFree, IsAgainst, WhyStop, CanStop, ReasonsRefuse, ClosedIsExact, WhyScan, CanScan, CanMarkShared, IsNotScanned, Hybrid, AreScanned, IsScanned, true, false}
 use Rattle.nmgc_barrier_checker.specs.declared.event.Event.TheVariants as event
 use Rattle.nmgc_barrier_checker.specs.declared.event.Why.TheVariants as why
 use Rattle.nmgc_barrier_checker.specs.declared.watch.Watch.TheVariants as watch
+use Rattle.nmgc_barrier_laws.specs.laws.HybridBeside.{hybrid_joint}
+use Rattle.nmgc_barrier_checker.specs.Watching.{IsUnscanned, ClosedLaterIsExact}
 use Rattle.nmgc_barrier_checker.proofs.RowLaws.{no_rows}
 
 no_command : (w : World) (m : ℕ) (c : Command) (answer : Reply) (y : Why) → IsWhyNot w m c answer y → CanApply w m c → (step w m c).1 ≡ answer → ⊥
@@ -18,10 +20,11 @@ no_command w m c answer (why.NotMarked n) h can says = h
 no_command w m c answer (why.Needed n) h can says = h
 no_command w m c answer (why.NotOld n) h can says = h
 no_command w m c answer (why.Untaken n) h can says = h
+no_command w m c answer (why.Unscanned k) h can says = h
 
 no_give : (line m : ℕ) (c : Command) (answer : Reply) (p : Watch) (y : Why) (next : Watch) → WhyGive m c answer p y → CanGive line m c answer p next → ⊥
 no_give line m c answer (watch.Between w) y next h g = no_command w m c answer y h g.1.0 g.1.1
-no_give line m c answer (watch.Marking k) y next h g = no_command k.world m c answer y h g.1.can g.1.says
+no_give line m c answer (watch.Marking k) y next h g = no_command k.watch.world m c answer y h g.1.can g.1.says
 no_give line m c answer (watch.Ended left) y next h g = no_command left.world m c answer y h g.1.0 g.1.1
 no_give line m c answer watch.Stopped y next h g = g
 
@@ -30,6 +33,22 @@ no_mark (watch.Between w) y next h g = h
 no_mark (watch.Marking k) y next h g = g
 no_mark (watch.Ended left) y next h g = h
 no_mark watch.Stopped y next h g = g
+
+no_mark_shared : (p : Watch) (y : Why) (next : Watch) → WhyMark p y → CanMarkShared p next → ⊥
+no_mark_shared (watch.Between w) y next h g = h
+no_mark_shared (watch.Marking k) y next h g = g
+no_mark_shared (watch.Ended left) y next h g = h
+no_mark_shared watch.Stopped y next h g = g
+
+not_scanned : (k next : Hybrid) (m : ℕ) (y : Why) → IsNotScanned k m y → IsScanned k m next → ⊥
+not_scanned k next m y (inl h) g = h.1 g.mutator
+not_scanned k next m y (inr h) g = let bad : true ≡ false = sym h.1 ∙ g.first in cc
+
+no_scan : (m : ℕ) (p : Watch) (y : Why) (next : Watch) → WhyScan m p y → CanScan m p next → ⊥
+no_scan m (watch.Between w) y next h g = g
+no_scan m (watch.Marking k) y next h g = not_scanned k g.0 m y h g.1
+no_scan m (watch.Ended left) y next h g = g
+no_scan m watch.Stopped y next h g = g
 
 no_push : (name : Name) (p : Watch) (y : Why) (next : Watch) → WhyPush name p y → CanPush name p next → ⊥
 no_push name (watch.Between w) y next h g = g
@@ -49,9 +68,13 @@ no_end k y (inl h) none all = nothing_in h.0 (subst (λ (l : List Debt). Contain
 no_end k y (inr h) none (inl e) = h.2.0 e
 no_end k y (inr h) none (inr t) = h.2.3 (t h.0 h.2.1 h.2.2)
 
+not_all : (k : Hybrid) (y : Why) → IsUnscanned k y → AreScanned k → ⊥
+not_all k y u all = let bad : true ≡ false = sym (all u.0 u.2) ∙ u.3 in cc
+
 no_close : (p : Watch) (y : Why) (next : Watch) → WhyClose p y → CanClose p next → ⊥
 no_close (watch.Between w) y next h g = g
-no_close (watch.Marking k) y next h g = no_end k y h g.1.ends.debts g.1.ends.taken
+no_close (watch.Marking k) y next (inl h) g = not_all k y h g.3
+no_close (watch.Marking k) y next (inr h) g = no_end k.watch y h g.1.ends.debts g.1.ends.taken
 no_close (watch.Ended left) y next h g = g
 no_close watch.Stopped y next h g = g
 
@@ -63,8 +86,9 @@ no_take name watch.Stopped y next h g = g
 
 no_close_with : (named : List Name) (p : Watch) (y : Why) (next : Watch) → WhyCloseWith named p y → CanCloseWith named p next → ⊥
 no_close_with named (watch.Between w) y next h g = g
-no_close_with named (watch.Marking k) y next (inl h) g = no_end k y h g.1.ends.debts g.1.ends.taken
-no_close_with named (watch.Marking k) y next (inr h) g = h.3 (g.1.ends.may h.0 h.2)
+no_close_with named (watch.Marking k) y next (inl h) g = not_all k y h g.3
+no_close_with named (watch.Marking k) y next (inr (inl h)) g = no_end k.watch y h g.1.ends.debts g.1.ends.taken
+no_close_with named (watch.Marking k) y next (inr (inr h)) g = h.3 (g.1.ends.may h.0 h.2)
 no_close_with named (watch.Ended left) y next h g = g
 no_close_with named watch.Stopped y next h g = g
 
@@ -96,6 +120,8 @@ pub reasons_refuse : ReasonsRefuse
 reasons_refuse line p (event.Given m c answer) y next h g = no_give line m c answer p y next h g
 reasons_refuse line p (event.Rows m commands) y next h g = no_rows line m commands p next y h g
 reasons_refuse line p event.Mark y next h g = no_mark p y next h g
+reasons_refuse line p event.MarkShared y next h g = no_mark_shared p y next h g
+reasons_refuse line p (event.Scan m) y next h g = no_scan m p y next h g
 reasons_refuse line p (event.Push name) y next h g = no_push name p y next h g
 reasons_refuse line p (event.Settle m) y next h g = no_settle m p y next h g
 reasons_refuse line p (event.Take name) y next h g = no_take name p y next h g
@@ -109,4 +135,11 @@ pub closed_is_exact : ClosedIsExact
 closed_is_exact h left l w is s next b possible closing name =
     let e = (barrier_theorem w is h s b).marks next possible closing name in
     let kept : Lists (MarksName h) left.kept = elim l [ inl a ↦ a.kept | inr p ↦ p.1.kept ] in
+    (λ m. kept.complete name (e.0 m), λ c. e.1 (kept.sound name c))
+
+pub closed_later_is_exact : ClosedLaterIsExact
+closed_later_is_exact h left l w is watches s next b possible closing name =
+    let paid : h.watch.debts ≡ [] = elim l [ inl a ↦ a.ends.debts | inr p ↦ p.1.ends.debts ] in
+    let kept : Lists (MarksName h.watch) left.kept = elim l [ inl a ↦ a.kept | inr p ↦ p.1.kept ] in
+    let e = (hybrid_joint w is h watches paid s b (record { queue = possible.1; pushed = possible.3 })).marks next closing name in
     (λ m. kept.complete name (e.0 m), λ c. e.1 (kept.sound name c))

@@ -1,5 +1,5 @@
 -- Several commands of one line: the effect of the first of them, and the command that stops them.
-use Rattle.nmgc_barrier_checker.proofs.Vocabulary.{◌≡◌, ◌<◌, ◌+◌, ℕ, List, [], ◌∷◌, ◌++◌, zero, suc, length, take, drop, get_or, refl, sym, ap, subst, ◌∙◌, arith, append_assoc, Option, Some, None, true, false, inl, inr, ◌⊎◌, is_some, Command, World, CanApply, step, Cycle, Event, Why, Copying, Filling, Watch, IsNotDone, is_done, load_of, store_of, write_of, copied, filled, CanAct, WhyNoAct, IsAct, AreDone, StopsAt, AreActed, is_stopped, mutators_of, CanRows, IsAbsent, IsWhy, IsStep}
+use Rattle.nmgc_barrier_checker.proofs.Vocabulary.{◌≡◌, ◌<◌, ◌+◌, ℕ, List, [], ◌∷◌, ◌++◌, zero, suc, length, take, drop, get_or, refl, sym, ap, subst, ◌∙◌, arith, append_assoc, Option, Some, None, true, false, inl, inr, ◌⊎◌, is_some, Command, World, CanApply, step, Why, Copying, Filling, Watch, IsNotDone, is_done, load_of, store_of, write_of, copied, filled, CanAct, WhyNoAct, IsAct, AreDone, StopsAt, AreActed, is_stopped, mutators_of, CanRows, IsAbsent, IsWhy, IsStep, Hybrid}
 use Rattle.nmgc_barrier_checker.specs.declared.event.Event.TheVariants as event
 use Rattle.nmgc_barrier_checker.specs.declared.event.Why.TheVariants as why
 use Rattle.nmgc_barrier_checker.specs.declared.watch.Watch.TheVariants as watch
@@ -81,7 +81,7 @@ rows_stopped line m commands watch.Stopped stopped = ((refl, refl), (line, watch
 -- the heap of a watch
 abbrev world_of : Watch → Option World
 world_of (watch.Between w) = Some w
-world_of (watch.Marking h) = Some h.world
+world_of (watch.Marking h) = Some h.watch.world
 world_of (watch.Ended left) = Some left.world
 world_of watch.Stopped = None
 
@@ -102,11 +102,11 @@ does line m c (watch.Between w) next a = record {
   there = ap world_of a.2 ∙ ap (λ (v : World). Some v) a.1.2;
 }
 does line m c (watch.Marking h) next a = record {
-  world = h.world;
+  world = h.watch.world;
   here = refl;
   can = a.1.can;
   done = a.2;
-  there = ap world_of a.3 ∙ ap (λ (k : Cycle). Some k.world) a.1.rest;
+  there = ap world_of a.3 ∙ ap (λ (k : Hybrid). Some k.watch.world) a.1.rest;
 }
 does line m c (watch.Ended left) next a = record {
   world = left.world;
@@ -125,6 +125,7 @@ not_done w m c (why.NoSuchName n) h can done = h
 not_done w m c (why.Due debt) h can done = h
 not_done w m c (why.NotPushed n) h can done = h
 not_done w m c (why.Untaken n) h can done = h
+not_done w m c (why.Unscanned k) h can done = h
 not_done w m c (why.NotDead n) h can done = h
 not_done w m c (why.NotListed n) h can done = h
 not_done w m c (why.NotMarked n) h can done = h
@@ -137,7 +138,7 @@ same_some v w e = cc
 refuses : (m : ℕ) (c : Command) (p : Watch) (y : Why) → WhyNoAct m c p y → (w : World) → world_of p ≡ Some w → CanApply w m c →
     is_done (step w m c).1 ≡ true → ⊥
 refuses m c (watch.Between v) y h w e can done = not_done w m c y (subst (λ (u : World). IsNotDone u m c y) (same_some v w e) h) can done
-refuses m c (watch.Marking k) y h w e can done = not_done w m c y (subst (λ (u : World). IsNotDone u m c y) (same_some k.world w e) h) can done
+refuses m c (watch.Marking k) y h w e can done = not_done w m c y (subst (λ (u : World). IsNotDone u m c y) (same_some k.watch.world w e) h) can done
 refuses m c (watch.Ended left) y h w e can done = not_done w m c y (subst (λ (u : World). IsNotDone u m c y) (same_some left.world w e) h) can done
 refuses m c watch.Stopped y h w e can done = absurd (let bad : None ≡ Some w = e in cc)
 

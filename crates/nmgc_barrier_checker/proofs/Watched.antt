@@ -1,16 +1,17 @@
 -- Whether a command can be given is decided; and if it can, a watched cycle has a next cycle.
 use Rattle.std.proofs.{Common.◌≡◌, Common.◌≢◌, Common.◌<◌, Common.◌≤◌, Common.◌+◌, Common.◌-◌, Common.◌^◌, Common.ℕ, Common.List, Common.[], Common.◌∷◌, Common.◌++◌, Common.zero, Common.suc, Common.length, Common.map, Common.refl, Common.sym, Common.ap, Common.subst, Common.◌∙◌, Common.arith, Common.Bool, Common.true, Common.false, Common.not, Common.cond, Common.inl, Common.inr, Common.◌⊎◌, Common.Option, Common.Some, Common.None, lemmas.Bool.cases_Bool, lemmas.Bool.cases_lt, lemmas.Bool.cases_eq, lemmas.Bool.false≢true, lemmas.List.Elements.All-nil, lemmas.List.Elements.All-cons, lemmas.List.Elements.All-head, lemmas.List.Elements.All-tail, lemmas.List.Elements.Contains-append_left, lemmas.List.Elements.Contains-append_right, lemmas.List.Elements.Contains-append_cases}
-use Rattle.std.specs.Prelude.{All, Contains, IsSome, is_some, filter, option_to_list, ◌↔◌}
+use Rattle.std.specs.Prelude.{All, Contains, is_some, filter, option_to_list}
 use Rattle.nmgc_limits.specs.declared.mutators.TheConstants.{REGISTERS, SHARED_MAKER}
 use Rattle.nmgc_world_spec.specs.{declared.value.Name.Name, declared.value.Value.Value, declared.node.Node.Node, declared.change.Change.Change, declared.command.Operand.Operand, declared.command.Operand.TheVariants.Register, declared.command.Operand.TheVariants.Shared, declared.command.Command.Command, declared.command.Command.TheVariants.Num, declared.command.Command.TheVariants.Nil, declared.command.Command.TheVariants.Mov, declared.command.Command.TheVariants.Con, declared.command.Command.TheVariants.Var, declared.command.Command.TheVariants.Arr, declared.command.Command.TheVariants.Thunk, declared.command.Command.TheVariants.Weak, declared.command.Command.TheVariants.Stack, declared.command.Command.TheVariants.Get, declared.command.Command.TheVariants.Set, declared.command.Command.TheVariants.Cas, declared.command.Command.TheVariants.Update, declared.command.Command.TheVariants.Force, declared.command.Command.TheVariants.Push, declared.command.Command.TheVariants.Pop, declared.command.Command.TheVariants.Deref, declared.command.Command.TheVariants.Finalise, declared.command.Command.TheVariants.NextFin, declared.command.Command.TheVariants.Show, declared.command.Command.TheVariants.Same, declared.command.Command.TheVariants.Yield, declared.command.Command.TheVariants.Collect, declared.command.Command.TheVariants.Full, declared.command.Reply.Reply, Known.IsRegister, Known.IsOperand, Command.HasRegisters, World.World, World.node_of, World.serial_of, Known.IsWorld, Known.CanApply, Step.asked, Step.step, History.opened_by, History.finalised_by, laws.Orders.contains_filter, laws.Orders.filter_contains, laws.Orders.name_cases, laws.Common.same_ref as ref_is}
 use Rattle.nmgc_world_spec.specs.declared.value.Value.TheVariants as value
 use Rattle.nmgc_world_spec.specs.declared.command.Reply.TheVariants as reply
 use Rattle.nmgc_world_laws.specs.laws.Worlds.{not_shared}
 use Rattle.nmgc_lists.specs.laws.Items.{nothing_in}
-use Rattle.nmgc_snapshot_laws.specs.{State.is_listed, laws.Listed.tested_same, laws.Listed.is_same_name-refl, laws.Listed.contains_listed, laws.Listed.not_listed, laws.Listed.listed_from, Machine.is_pushed_in}
-use Rattle.nmgc_barrier_laws.specs.{declared.debt.Debt.Debt, Due.IsDue, Cycle.Cycle, Cycle.IsWatched, Cycle.OwesBy}
-use Rattle.nmgc_barrier_checker.specs.{declared.due.Field.Field, Dues.strong_in, Dues.is_ref_to, Dues.stands_in, Dues.first_place, Dues.end_place, Dues.IsStanding, Dues.kept_then, Dues.targets, Accounts.debt_of, Cycles.IsTaken}
-use Rattle.nmgc_barrier_checker.proofs.{Filters.mapped_in, Filters.in_mapped, Standing.noted_sound, Standing.noted_all, DueLaws.found_due, DueLaws.due_found}
+use Rattle.nmgc_world_laws.specs.Stored.{place_written, value_written}
+use Rattle.nmgc_snapshot_laws.specs.{State.is_listed, laws.Listed.tested_same, laws.Listed.is_same_name-refl, laws.Listed.contains_listed, laws.Listed.listed_from, Machine.is_pushed_in}
+use Rattle.nmgc_barrier_laws.specs.{declared.debt.Debt.Debt, Hybrid.Hybrid, Hybrid.IsDueIn}
+use Rattle.nmgc_barrier_checker.specs.{declared.due.Field.Field, Dues.strong_in, Dues.is_ref_to, Dues.stands_in, Dues.end_place, Dues.IsStanding, Dues.IsComing, Dues.kept_then, Dues.targets, Accounts.debt_of, Cycles.IsTaken}
+use Rattle.nmgc_barrier_checker.proofs.{Filters.mapped_in, Filters.in_mapped, Standing.noted_sound, Standing.noted_all, DueLaws.found_due, DueLaws.due_found, Handed.handed, Handed.found_handed, Handed.handed_found}
 
 -- if two facts are decided, so are facts made of them
 abbrev pub Cases : Type 0 → Type 0
@@ -242,41 +243,151 @@ standing snapshot w m c = by_asked (asked w m c) refl
     by_asked None e = nowhere (λ n k node a b. let bad : None ≡ Some (value.Ref n, k) = sym e ∙ a in cc)
     by_asked (Some (v, ch)) e = by_value v ch e
 
+same_field : (name target : Name) (place : ℕ) (f : Field) → name ≡ f.name → place ≡ f.place → target ≡ f.target →
+    record { name = name; place = place; target = target } ≡ f
+same_field name target place f a b e = (λ k. record { name = a k; place = b k; target = e k })
+
+-- the field that a command may write, if the world doesn't have it
+module _ (w : World) (m : ℕ) (c : Command) where
+  abbrev Coming : Type 0
+  Coming = (field : Option Field) × IsComing w m c field
+
+  none_coming : ((f : Field) (ch : Change) (node : Node) → asked w m c ≡ Some (value.Ref f.name, ch) → node_of w f.name ≡ Some node →
+      place_written ch node ≡ Some f.place → value_written ch ≡ Some (value.Ref f.target) → stands_in w f ≡ false → ⊥) → Coming
+  none_coming never = (None, record { sound = λ f k. let bad : None ≡ Some f = k in absurd cc; all = λ f ch node a b p v s. absurd (never f ch node a b p v s) })
+
+  module _ (name : Name) (ch : Change) (node : Node) (e : asked w m c ≡ Some (value.Ref name, ch)) (there : node_of w name ≡ Some node) where
+    same_asked : (n : Name) (k : Change) → asked w m c ≡ Some (value.Ref n, k) → ◌≡◌ {A = Value × Change} (value.Ref name, ch) (value.Ref n, k)
+    same_asked n k a = same_pair (value.Ref name, ch) (value.Ref n, k) (sym e ∙ a)
+
+    same_name_is : (n : Name) (k : Change) → asked w m c ≡ Some (value.Ref n, k) → name ≡ n
+    same_name_is n k a = ref_is name n (ap (λ (p : Value × Change). p.0) (same_asked n k a))
+
+    same_change_is : (n : Name) (k : Change) → asked w m c ≡ Some (value.Ref n, k) → ch ≡ k
+    same_change_is n k a = ap (λ (p : Value × Change). p.1) (same_asked n k a)
+
+    same_place : (o : Option ℕ) → place_written ch node ≡ o → (n : Name) (k : Change) (found : Node) (place : ℕ) → asked w m c ≡ Some (value.Ref n, k) →
+        node_of w n ≡ Some found → place_written k found ≡ Some place → o ≡ Some place
+    same_place o p n k found place a b q =
+        let nodes : Some node ≡ Some found = sym there ∙ (ap (node_of w) (same_name_is n k a) ∙ b) in
+        let is : node ≡ found = cc in
+        sym p ∙ (ap (λ (x : Change). place_written x node) (same_change_is n k a) ∙ (ap (λ (x : Node). place_written k x) is ∙ q))
+
+    same_value : (o : Option Value) → value_written ch ≡ o → (n : Name) (k : Change) (v : Value) → asked w m c ≡ Some (value.Ref n, k) →
+        value_written k ≡ Some v → o ≡ Some v
+    same_value o p n k v a q = sym p ∙ (ap value_written (same_change_is n k a) ∙ q)
+
+    at_field : (place : ℕ) (target : Name) → place_written ch node ≡ Some place → value_written ch ≡ Some (value.Ref target) →
+        (b : Bool) → stands_in w (record { name = name; place = place; target = target }) ≡ b → Coming
+    at_field place target p v b t = by_test b t
+      where
+        g : Field
+        g = record { name = name; place = place; target = target }
+
+        is_g : (f : Field) (k : Change) (found : Node) → asked w m c ≡ Some (value.Ref f.name, k) → node_of w f.name ≡ Some found →
+            place_written k found ≡ Some f.place → value_written k ≡ Some (value.Ref f.target) → g ≡ f
+        is_g f k found a b' q u =
+            let places : Some place ≡ Some f.place = same_place (Some place) p f.name k found f.place a b' q in
+            let values : Some (value.Ref target) ≡ Some (value.Ref f.target) = same_value (Some (value.Ref target)) v f.name k (value.Ref f.target) a u in
+            let is_place : place ≡ f.place = cc in
+            let is_target : target ≡ f.target = cc in
+            same_field name target place f (same_name_is f.name k a) is_place is_target
+
+        by_test : (b : Bool) → stands_in w g ≡ b → Coming
+        by_test true t = none_coming (λ f k found a b' q u s.
+            let bad : true ≡ false = sym t ∙ subst (λ (x : Field). stands_in w x ≡ false) (sym (is_g f k found a b' q u)) s in cc)
+        by_test false t = (
+          Some g,
+          record {
+            sound = λ f k. let is : g ≡ f = cc in subst (λ (x : Field). stands_in w x ≡ false) is t;
+            all = λ f k found a b' q u s. ap (λ (x : Field). Some x) (is_g f k found a b' q u);
+          },
+        )
+
+    by_written : (p : Option ℕ) (v : Option Value) → place_written ch node ≡ p → value_written ch ≡ v → Coming
+    by_written None v p q = none_coming (λ f k found a b r u s. let bad : None ≡ Some f.place = same_place None p f.name k found f.place a b r in cc)
+    by_written (Some place) None p q = none_coming (λ f k found a b r u s.
+        let bad : None ≡ Some (value.Ref f.target) = same_value None q f.name k (value.Ref f.target) a u in cc)
+    by_written (Some place) (Some value.Nil) p q = none_coming (λ f k found a b r u s.
+        let bad : Some value.Nil ≡ Some (value.Ref f.target) = same_value (Some value.Nil) q f.name k (value.Ref f.target) a u in cc)
+    by_written (Some place) (Some (value.Number n)) p q = none_coming (λ f k found a b r u s.
+        let bad : Some (value.Number n) ≡ Some (value.Ref f.target) = same_value (Some (value.Number n)) q f.name k (value.Ref f.target) a u in cc)
+    by_written (Some place) (Some (value.Ref target)) p q = at_field place target p q (stands_in w (record { name = name; place = place; target = target })) refl
+
+  by_node : (name : Name) (ch : Change) → asked w m c ≡ Some (value.Ref name, ch) → (o : Option Node) → node_of w name ≡ o → Coming
+  by_node name ch e None there = none_coming (λ f k found a b p v s.
+      let both : (value.Ref name, ch) ≡ (value.Ref f.name, k) = same_pair (value.Ref name, ch) (value.Ref f.name, k) (sym e ∙ a) in
+      let same : name ≡ f.name = ref_is name f.name (ap (λ (p : Value × Change). p.0) both) in
+      let bad : None ≡ Some found = sym there ∙ (ap (node_of w) same ∙ b) in cc)
+  by_node name ch e (Some node) there = by_written name ch node e there (place_written ch node) (value_written ch) refl refl
+
+  by_asked : (o : Option (Value × Change)) → asked w m c ≡ o → Coming
+  by_asked None e = none_coming (λ f k found a b p v s. let bad : None ≡ Some (value.Ref f.name, k) = sym e ∙ a in cc)
+  by_asked (Some (value.Nil, ch)) e = none_coming (λ f k found a b p v s.
+      let bad : value.Nil ≡ value.Ref f.name = ap (λ (p : Value × Change). p.0) (same_pair (value.Nil, ch) (value.Ref f.name, k) (sym e ∙ a)) in cc)
+  by_asked (Some (value.Number n, ch)) e = none_coming (λ f k found a b p v s.
+      let bad : value.Number n ≡ value.Ref f.name = ap (λ (p : Value × Change). p.0) (same_pair (value.Number n, ch) (value.Ref f.name, k) (sym e ∙ a)) in cc)
+  by_asked (Some (value.Ref name, ch)) e = by_node name ch e (node_of w name) refl
+
+  pub coming : Coming
+  coming = by_asked (asked w m c) refl
+
 -- a watched cycle takes a command
-module _ (h : Cycle) (is : IsWorld h.world) (line m : ℕ) (c : Command) (can : CanApply h.world m c) where
+module _ (h : Hybrid) (is : IsWorld h.watch.world) (line m : ℕ) (c : Command) (can : CanApply h.watch.world m c) where
   own : m ≢ SHARED_MAKER
-  own = not_shared h.world m is can.mutator
+  own = not_shared h.watch.world m is can.mutator
 
   abbrev fields : List Field
-  fields = (standing h.snapshot h.world m c).0
+  fields = (standing h.watch.snapshot h.watch.world m c).0
 
-  fields_stand : IsStanding h.snapshot h.world m c fields
-  fields_stand = (standing h.snapshot h.world m c).1
+  fields_stand : IsStanding h.watch.snapshot h.watch.world m c fields
+  fields_stand = (standing h.watch.snapshot h.watch.world m c).1
+
+  abbrev given_out : List Name
+  given_out = handed h m c is can (coming h.watch.world m c).0 (coming h.watch.world m c).1
+
+  abbrev broken : List Name
+  broken = filter (is_pushed_in h.watch.snapshot) (targets (filter (λ g. not (stands_in (step h.watch.world m c).0 g)) fields) ++
+      (opened_by h.watch.world m c ++ kept_then h.watch.snapshot (finalised_by h.watch.world m c)))
 
   abbrev found : List Name
-  found = filter (is_pushed_in h.snapshot) (targets (filter (λ g. not (stands_in (step h.world m c).0 g)) fields) ++
-      (opened_by h.world m c ++ kept_then h.snapshot (finalised_by h.world m c)))
+  found = broken ++ given_out
 
   abbrev fresh : Name → Bool
-  fresh n = not (is_listed n h.remembered)
+  fresh n = not (is_listed n h.watch.remembered)
 
   abbrev more : List Debt
   more = map (debt_of line m) (filter fresh found)
 
   abbrev there : Name → Bool
-  there n = is_some (node_of h.snapshot n)
+  there n = is_some (node_of h.watch.snapshot n)
 
-  abbrev pub after : Cycle
+  abbrev opens : List Name
+  opens = filter there (opened_by h.watch.world m c)
+
+  abbrev pub after : Hybrid
   after = record h {
-    world = (step h.world m c).0;
-    debts = h.debts ++ more;
-    opened = h.opened ++ filter there (opened_by h.world m c);
-    finalised = h.finalised ++ finalised_by h.world m c;
+    watch = record h.watch {
+      world = (step h.watch.world m c).0;
+      debts = h.watch.debts ++ more;
+      opened = h.watch.opened ++ (opens ++ given_out);
+      finalised = h.watch.finalised ++ finalised_by h.watch.world m c;
+    };
   }
 
-  unlisted : (n : Name) → fresh n ≡ true → Contains h.remembered n → ⊥
-  unlisted n e r = let t : is_listed n h.remembered ≡ true = listed_from n h.remembered r in
+  unlisted : (n : Name) → fresh n ≡ true → Contains h.watch.remembered n → ⊥
+  unlisted n e r = let t : is_listed n h.watch.remembered ≡ true = listed_from n h.watch.remembered r in
       let bad : not true ≡ true = subst (λ (b : Bool). not b ≡ true) t e in cc
+
+  due_in : (n : Name) → Contains found n → IsDueIn h m c n
+  due_in n k = elim (Contains-append_cases broken given_out n k) [
+    | inl b ↦ inl (found_due h.watch.snapshot h.watch.world m c can.mutator own fields fields_stand n b)
+    | inr d ↦ inr (found_handed h m c is can (coming h.watch.world m c).0 (coming h.watch.world m c).1 n d)
+  ]
+
+  in_due : (n : Name) → IsDueIn h m c n → Contains found n
+  in_due n (inl d) = Contains-append_left broken given_out n (due_found h.watch.snapshot h.watch.world m c can.mutator own fields fields_stand n d)
+  in_due n (inr d) = Contains-append_right broken given_out n (handed_found h m c is can (coming h.watch.world m c).0 (coming h.watch.world m c).1 n d)
 
   pub watched : IsTaken line m c h after
   watched = record {
@@ -284,27 +395,32 @@ module _ (h : Cycle) (is : IsWorld h.world) (line m : ℕ) (c : Command) (can : 
     says = refl;
     rest = refl;
     opened = λ n. (
-      λ k. elim (Contains-append_cases h.opened (filter there (opened_by h.world m c)) n k) [
+      λ k. elim (Contains-append_cases h.watch.opened (opens ++ given_out) n k) [
         | inl old ↦ inl old
-        | inr new ↦ inr (filter_contains there (opened_by h.world m c) n new)
+        | inr new ↦ elim (Contains-append_cases opens given_out n new) [
+          | inl o ↦ inr (inl (filter_contains there (opened_by h.watch.world m c) n o))
+          | inr d ↦ inr (inr (found_handed h m c is can (coming h.watch.world m c).0 (coming h.watch.world m c).1 n d))
+        ]
       ],
       λ k. elim k [
-        | inl old ↦ Contains-append_left h.opened (filter there (opened_by h.world m c)) n old
-        | inr new ↦ Contains-append_right h.opened (filter there (opened_by h.world m c)) n (contains_filter there (opened_by h.world m c) n new.0 new.1)
+        | inl old ↦ Contains-append_left h.watch.opened (opens ++ given_out) n old
+        | inr (inl new) ↦ Contains-append_right h.watch.opened (opens ++ given_out) n
+            (Contains-append_left opens given_out n (contains_filter there (opened_by h.watch.world m c) n new.0 new.1))
+        | inr (inr d) ↦ Contains-append_right h.watch.opened (opens ++ given_out) n (Contains-append_right opens given_out n
+            (handed_found h m c is can (coming h.watch.world m c).0 (coming h.watch.world m c).1 n d))
       ],
     );
-    old = λ d k. Contains-append_left h.debts more d k;
-    new = λ d k. elim (Contains-append_cases h.debts more d k) [
+    old = λ d k. Contains-append_left h.watch.debts more d k;
+    new = λ d k. elim (Contains-append_cases h.watch.debts more d k) [
       | inl old ↦ inl old
       | inr new ↦ inr (by_name d (in_mapped (debt_of line m) (filter fresh found) d new))
     ];
-    due = λ n d. elim (cases_Bool (is_listed n h.remembered)) [
-      | inl t ↦ inl (contains_listed n h.remembered t)
+    due = λ n d. elim (cases_Bool (is_listed n h.watch.remembered)) [
+      | inl t ↦ inl (contains_listed n h.watch.remembered t)
       | inr f ↦ inr (
         debt_of line m n,
-        Contains-append_right h.debts more (debt_of line m n)
-            (mapped_in (debt_of line m) (filter fresh found) n
-            (contains_filter fresh found n (due_found h.snapshot h.world m c can.mutator own fields fields_stand n d) (ap not f))),
+        Contains-append_right h.watch.debts more (debt_of line m n)
+            (mapped_in (debt_of line m) (filter fresh found) n (contains_filter fresh found n (in_due n d) (ap not f))),
         refl,
         refl,
       )
@@ -312,11 +428,11 @@ module _ (h : Cycle) (is : IsWorld h.world) (line m : ℕ) (c : Command) (can : 
   }
     where
       by_name : (d : Debt) → ((n : Name) × Contains (filter fresh found) n × (debt_of line m n ≡ d)) → (d.line ≡ line) × (d.mutator ≡ m) ×
-          IsDue h.snapshot h.world m c d.name × (Contains h.remembered d.name → ⊥)
+          IsDueIn h m c d.name × (Contains h.watch.remembered d.name → ⊥)
       by_name d (n, k, e) =
           let p : Contains found n × (fresh n ≡ true) = filter_contains fresh found n k in (
             sym (ap (λ (x : Debt). x.line) e),
             sym (ap (λ (x : Debt). x.mutator) e),
-            subst (λ (x : Debt). IsDue h.snapshot h.world m c x.name) e (found_due h.snapshot h.world m c can.mutator own fields fields_stand n p.0),
-            subst (λ (x : Debt). Contains h.remembered x.name → ⊥) e (unlisted n p.1),
+            subst (λ (x : Debt). IsDueIn h m c x.name) e (due_in n p.0),
+            subst (λ (x : Debt). Contains h.watch.remembered x.name → ⊥) e (unlisted n p.1),
           )

@@ -1,8 +1,8 @@
 -- The invariant of a cycle, and the results of its calls.
-use Rattle.std.specs.Prelude.{◌≡◌, ◌≢◌, ℕ, List, [], ◌∷◌, ◌++◌, length, flat_map, Option, Some, None, Bool, true, false, not, ◌&&◌, IsSome, Contains, ◌<◌, ◌⊎◌}
+use Rattle.std.specs.Prelude.{◌≡◌, ◌≢◌, ℕ, List, [], ◌∷◌, ◌++◌, length, flat_map, Option, Some, None, Bool, true, false, not, ◌&&◌, IsSome, Contains, ◌<◌, ◌⊎◌, ◌↔◌}
 use Rattle.nmgc_world_spec.specs.{declared.value.Name.Name, declared.node.Parts.Parts, declared.command.Command.Command, declared.command.Reply.Reply, World.World, World.node_of, Known.IsWorld, Change.is_same_name, Known.CanApply, Step.step, Step.shared_name, Reach.IsAlive, Owed.names_among}
 use Rattle.nmgc_graph.specs.{Marks.mark_of, Search.parts_of}
-use Rattle.nmgc_barrier_laws.specs.{declared.debt.Debt.Debt, Cycle.Cycle, Cycle.IsWatched, Cycle.IsPushed, Cycle.IsTook, Cycle.IsAllTaken, Cycle.AreKeysLeft}
+use Rattle.nmgc_barrier_laws.specs.{declared.debt.Debt.Debt, Cycle.Cycle, Cycle.IsPushed, Cycle.IsTook, Cycle.IsAllTaken, Cycle.AreKeysLeft, Hybrid.Hybrid, Hybrid.is_scanned, Hybrid.IsWatchedIn, Hybrid.IsScanned, Hybrid.held_names}
 use Rattle.nmgc_barrier_checker.specs.{declared.accounts.Accounts.Accounts, declared.name_set.NameSet.NameSet, declared.event.Why.Why, Accounts.AreAccounts, Accounts.IsLeastIn, NameSet.IsListed, Rows.is_done}
 use Rattle.nmgc_barrier_checker.specs.declared.event.Why.TheVariants as why
 
@@ -18,9 +18,18 @@ pub record IsCycle (w s : World) (pushes : NameSet) (owed : Accounts) (opens tak
   pub snapshot : IsWorld s
   pub world : IsWorld w
 
+-- a snapshot of a world, with the same objects; registers may differ
+pub record IsSnapshotOf (w s : World) : Type 0 where
+  pub count : length s.mutators ≡ length w.mutators
+  pub nodes : (name : Name) → node_of s name ≡ node_of w name
+
+-- the cycle, with these mutators scanned
+abbrev pub with_scans : List Bool → Cycle → Hybrid
+with_scans scans h = record { watch = h; scanned = scans }
+
 -- a command that the cycle takes, whatever the heap's answer
-abbrev pub IsTaken : ℕ → ℕ → Command → Cycle → Cycle → Type 0
-IsTaken line m c h next = IsWatched h line m c (step h.world m c).1 next
+abbrev pub IsTaken : ℕ → ℕ → Command → Hybrid → Hybrid → Type 0
+IsTaken line m c h next = IsWatchedIn h line m c (step h.watch.world m c).1 next
 
 -- the reason why a world can't take a command with this answer
 abbrev pub IsWhyNot : World → ℕ → Command → Reply → Why → Type 0
@@ -36,11 +45,12 @@ IsWhyNot w m c answer (why.NotMarked n) = ⊥
 IsWhyNot w m c answer (why.Needed n) = ⊥
 IsWhyNot w m c answer (why.NotOld n) = ⊥
 IsWhyNot w m c answer (why.Untaken n) = ⊥
+IsWhyNot w m c answer (why.Unscanned k) = ⊥
 
 -- the outcome of a command with an answer: the cycle took it, or nothing changed and there is a reason
-abbrev pub IsCommand : ℕ → ℕ → Command → Reply → Cycle → Option Why → Cycle → Type 0
-IsCommand line m c answer h None next = IsWatched h line m c answer next
-IsCommand line m c answer h (Some w) next = (next ≡ h) × IsWhyNot h.world m c answer w
+abbrev pub IsCommand : ℕ → ℕ → Command → Reply → Hybrid → Option Why → Hybrid → Type 0
+IsCommand line m c answer h None next = IsWatchedIn h line m c answer next
+IsCommand line m c answer h (Some w) next = (next ≡ h) × IsWhyNot h.watch.world m c answer w
 
 -- the reason why a world doesn't do a command
 abbrev pub IsNotDone : World → ℕ → Command → Why → Type 0
@@ -49,9 +59,24 @@ IsNotDone w m c (why.Answer r) = CanApply w m c × ((step w m c).1 ≡ r) × (is
 IsNotDone w m c y = ⊥
 
 -- the outcome of a command with any answer: it was done, or nothing changed and there is a reason
-abbrev pub IsActing : ℕ → ℕ → Command → Cycle → Option Why → Cycle → Type 0
-IsActing line m c h None next = IsTaken line m c h next × (is_done (step h.world m c).1 ≡ true)
-IsActing line m c h (Some w) next = (next ≡ h) × IsNotDone h.world m c w
+abbrev pub IsActing : ℕ → ℕ → Command → Hybrid → Option Why → Hybrid → Type 0
+IsActing line m c h None next = IsTaken line m c h next × (is_done (step h.watch.world m c).1 ≡ true)
+IsActing line m c h (Some w) next = (next ≡ h) × IsNotDone h.watch.world m c w
+
+-- the names of the snapshot in the mutator's registers count as opened
+pub record IsRead (m : ℕ) (h next : Cycle) : Type 0 where
+  pub rest : next ≡ record h { opened = next.opened }
+  pub opened : (name : Name) → Contains next.opened name ↔ (Contains h.opened name ⊎
+      (Contains (held_names h.world m) name × IsSome (node_of h.snapshot name)))
+
+-- the reasons why a mutator can't be scanned: there is no such mutator, or it was scanned in this cycle
+abbrev pub IsNotScanned : Hybrid → ℕ → Why → Type 0
+IsNotScanned h m y = ((y ≡ why.CannotApply) × (m < length h.watch.world.mutators → ⊥)) ⊎ ((y ≡ why.Misplaced) × (is_scanned h m ≡ true))
+
+-- the outcome of a scan: the mutator was scanned, or nothing changed and there is a reason
+abbrev pub IsScan : ℕ → Hybrid → Option Why → Hybrid → Type 0
+IsScan m h None next = IsScanned h m next
+IsScan m h (Some y) next = (next ≡ h) × IsNotScanned h m y
 
 -- the outcome of a push: the cycle took it, or nothing changed, since the heap has no such name
 abbrev pub IsPush : Name → Cycle → Option Why → Cycle → Type 0

@@ -1,10 +1,12 @@
--- How a command's due names are found: by fields that snapshot and world share at positions that the command may change.
-use Rattle.std.specs.Prelude.{◌≡◌, ◌+◌, ◌-◌, ◌<◌, ◌≤◌, ℕ, zero, suc, List, [], ◌∷◌, length, map, flat_map, Option, Some, None, Bool, true, false, Contains}
-use Rattle.nmgc_world_spec.specs.{declared.value.Name.Name, declared.value.Value.Value, declared.node.Parts.Parts, declared.node.Node.Node, declared.node.Node.TheVariants.Con, declared.node.Node.TheVariants.Var, declared.node.Node.TheVariants.Arr, declared.node.Node.TheVariants.Thunk, declared.node.Node.TheVariants.Weak, declared.node.Node.TheVariants.Stack, declared.change.Change.Change, declared.command.Command.Command, World.World, World.node_of, Change.is_same_name, Step.asked, Owed.names_among}
+-- How a command's due names are found: by fields that snapshot and world share at positions that the command may change. For
+-- a mutator that isn't scanned, also by the field that the command may write and the object that it may make.
+use Rattle.std.specs.Prelude.{◌≡◌, ◌+◌, ◌-◌, ◌<◌, ◌≤◌, ℕ, List, [], ◌∷◌, length, map, flat_map, Option, Some, None, Bool, true, false, Contains, ◌++◌, filter, option_to_list, if◌then◌else◌}
+use Rattle.nmgc_world_spec.specs.{declared.value.Name.Name, declared.value.Value.Value, declared.node.Parts.Parts, declared.node.Node.Node, declared.node.Node.TheVariants.Thunk, declared.node.Node.TheVariants.Weak, declared.node.Node.TheVariants.Stack, declared.change.Change.Change, declared.command.Command.Command, World.World, World.node_of, World.parts_held, Change.is_same_name, Reach.strong_fields, Step.asked, Owed.names_among}
 use Rattle.nmgc_world_spec.specs.declared.value.Value.TheVariants as value
 use Rattle.nmgc_world_spec.specs.declared.change.Change.TheVariants as change
 use Rattle.nmgc_graph.specs.Search.{parts_of}
-use Rattle.nmgc_world_laws.specs.Holds.{strong_at}
+use Rattle.nmgc_world_laws.specs.{Holds.strong_at, Stored.place_written, Stored.value_written}
+use Rattle.nmgc_snapshot_laws.specs.Machine.{is_pushed_in}
 use Rattle.nmgc_barrier_checker.specs.declared.due.Field.{Field}
 
 -- the value in a strong field of a node, if the node and the field exist
@@ -74,3 +76,34 @@ kept_of weak (Some parts) = names_among (value.Ref weak ∷ parts.value ∷ part
 -- the names kept by those weak pointers that are alive in the snapshot: their own, and those in values and finalisers
 abbrev pub kept_then : World → List Name → List Name
 kept_then snapshot weaks = flat_map (λ weak. kept_of weak (parts_of snapshot weak)) weaks
+
+-- the field that the command may write, if it writes a reference and the world doesn't have the field; at most one
+pub record IsComing (w : World) (m : ℕ) (c : Command) (field : Option Field) : Type 0 where
+  pub sound : (f : Field) → field ≡ Some f → stands_in w f ≡ false
+  pub all : (f : Field) (ch : Change) (node : Node) → asked w m c ≡ Some (value.Ref f.name, ch) → node_of w f.name ≡ Some node →
+      place_written ch node ≡ Some f.place → value_written ch ≡ Some (value.Ref f.target) → stands_in w f ≡ false → field ≡ Some f
+
+-- the target of the field that came, if there is such a field and the world has it
+abbrev pub came_in : World → Option Field → Option Name
+came_in after None = None
+came_in after (Some f) = if stands_in after f then Some f.target else None
+
+-- the values that a new node stores: those in its strong fields, or the parts of a weak pointer
+abbrev pub stored_values : Node → List Value
+stored_values (Weak parts) = parts_held parts
+stored_values node = strong_fields node
+
+-- the values that the node of a name stores, if there is a node
+abbrev pub values_in : Option Node → List Value
+values_in None = []
+values_in (Some node) = stored_values node
+
+-- the names that a command stored, by the world after it: the target of the field that came, and the names in the object that
+-- it may have made
+abbrev pub stored_in : World → Name → Option Field → List Name
+stored_in after made field = option_to_list (came_in after field) ++ names_among (values_in (node_of after made))
+
+-- the names that a command handed out: none if its mutator is scanned, and otherwise the stored names that may be due
+abbrev pub handed_in : Bool → World → World → Name → Option Field → List Name
+handed_in true snapshot after made field = []
+handed_in false snapshot after made field = filter (is_pushed_in snapshot) (stored_in after made field)

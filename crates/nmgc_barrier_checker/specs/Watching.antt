@@ -4,8 +4,9 @@ use Rattle.nmgc_world_spec.specs.{declared.value.Name.Name, declared.command.Com
 use Rattle.nmgc_snapshot_laws.specs.declared.event.Event.TheVariants as core
 use Rattle.nmgc_snapshot_laws.specs.{State.State, Machine.IsPossible, Closing.IsClosing}
 use Rattle.nmgc_barrier_laws.specs.{declared.debt.Debt.Debt, Barrier.Beside}
-use Rattle.nmgc_barrier_laws.specs.Cycle.{Cycle, watching, IsWatched, IsPushed, IsTook, IsAllTaken, IsEnd, IsEndWith, IsDeadAmong, Needs, MarksName}
-use Rattle.nmgc_barrier_checker.specs.{declared.event.Event.Event, declared.event.Why.Why, declared.cycle_result.CycleResult.CycleResult, declared.watch.Watch.Watch, Cycles.IsWhyNot, Cycles.IsNotDone, Cycles.IsTaken, Cycles.IsSettled, Cycles.IsUnsettled, Cycles.IsUntakenName, Rows.is_done}
+use Rattle.nmgc_barrier_laws.specs.Cycle.{Cycle, IsPushed, IsTook, IsAllTaken, IsEnd, IsEndWith, IsDeadAmong, Needs, MarksName}
+use Rattle.nmgc_barrier_laws.specs.Hybrid.{Hybrid, scanned_at_once, beginning, is_scanned, AreScanned, IsWatchedIn, IsScanned, WatchesIn, BesideIn}
+use Rattle.nmgc_barrier_checker.specs.{declared.event.Event.Event, declared.event.Why.Why, declared.cycle_result.CycleResult.CycleResult, declared.watch.Watch.Watch, Cycles.IsWhyNot, Cycles.IsNotDone, Cycles.IsTaken, Cycles.IsNotScanned, Cycles.IsSettled, Cycles.IsUnsettled, Cycles.IsUntakenName, Rows.is_done}
 use Rattle.nmgc_barrier_checker.specs.declared.event.Event.TheVariants as event
 use Rattle.nmgc_barrier_checker.specs.declared.event.Why.TheVariants as why
 use Rattle.nmgc_barrier_checker.specs.declared.watch.Watch.TheVariants as watch
@@ -17,7 +18,7 @@ IsGiven w m c answer next = CanApply w m c × ((step w m c).1 ≡ answer) × (ne
 -- a command that the heap takes with this answer; in a cycle, the names that it makes due are due since this line
 abbrev pub CanGive : ℕ → ℕ → Command → Reply → Watch → Watch → Type 0
 CanGive line m c answer (watch.Between w) next = (after : World) × IsGiven w m c answer after × (next ≡ watch.Between after)
-CanGive line m c answer (watch.Marking h) next = (after : Cycle) × IsWatched h line m c answer after × (next ≡ watch.Marking after)
+CanGive line m c answer (watch.Marking h) next = (after : Hybrid) × IsWatchedIn h line m c answer after × (next ≡ watch.Marking after)
 CanGive line m c answer (watch.Ended left) next = (after : World) × IsGiven left.world m c answer after × (next ≡ watch.Ended (record left { world = after }))
 CanGive line m c answer watch.Stopped next = ⊥
 
@@ -29,7 +30,7 @@ IsGivenIf w m c answer (Some y) next = (next ≡ w) × IsWhyNot w m c answer y
 -- the reasons why a command can't have been given: the heap can't take it, or has another answer; or the watch has stopped
 abbrev pub WhyGive : ℕ → Command → Reply → Watch → Why → Type 0
 WhyGive m c answer (watch.Between w) y = IsWhyNot w m c answer y
-WhyGive m c answer (watch.Marking h) y = IsWhyNot h.world m c answer y
+WhyGive m c answer (watch.Marking h) y = IsWhyNot h.watch.world m c answer y
 WhyGive m c answer (watch.Ended left) y = IsWhyNot left.world m c answer y
 WhyGive m c answer watch.Stopped y = y ≡ why.Misplaced
 
@@ -45,14 +46,14 @@ IsDoneIf w m c (Some y) next = (next ≡ w) × IsNotDone w m c y
 -- a command among several in one line: the heap does it; in a cycle, the names that it makes due are due since this line
 abbrev pub CanAct : ℕ → ℕ → Command → Watch → Watch → Type 0
 CanAct line m c (watch.Between w) next = (after : World) × IsDone w m c after × (next ≡ watch.Between after)
-CanAct line m c (watch.Marking h) next = (after : Cycle) × IsTaken line m c h after × (is_done (step h.world m c).1 ≡ true) × (next ≡ watch.Marking after)
+CanAct line m c (watch.Marking h) next = (after : Hybrid) × IsTaken line m c h after × (is_done (step h.watch.world m c).1 ≡ true) × (next ≡ watch.Marking after)
 CanAct line m c (watch.Ended left) next = (after : World) × IsDone left.world m c after × (next ≡ watch.Ended (record left { world = after }))
 CanAct line m c watch.Stopped next = ⊥
 
 -- the reasons why one of several commands can't have been done: the heap can't take it or doesn't do it, or the watch stopped
 abbrev pub WhyNoAct : ℕ → Command → Watch → Why → Type 0
 WhyNoAct m c (watch.Between w) y = IsNotDone w m c y
-WhyNoAct m c (watch.Marking h) y = IsNotDone h.world m c y
+WhyNoAct m c (watch.Marking h) y = IsNotDone h.watch.world m c y
 WhyNoAct m c (watch.Ended left) y = IsNotDone left.world m c y
 WhyNoAct m c watch.Stopped y = y ≡ why.Misplaced
 
@@ -90,7 +91,7 @@ is_stopped watch.Stopped = true
 -- the number of mutators in the heap of a watch
 abbrev pub mutators_of : Watch → ℕ
 mutators_of (watch.Between w) = length w.mutators
-mutators_of (watch.Marking h) = length h.world.mutators
+mutators_of (watch.Marking h) = length h.watch.world.mutators
 mutators_of (watch.Ended left) = length left.world.mutators
 mutators_of watch.Stopped = 0
 
@@ -109,11 +110,11 @@ abbrev pub WhyRows : ℕ → ℕ → List Command → Watch → Why → Watch �
 WhyRows line m commands watch.Stopped y last = (y ≡ why.Misplaced) × (last ≡ watch.Stopped)
 WhyRows line m commands p y last = StopsAt line m commands p y last ⊎ IsAbsent m p y last
 
--- the beginning of marking, outside of a cycle: the world is the snapshot
+-- the beginning of marking, outside of a cycle: the world is the snapshot, and all mutators are scanned
 abbrev pub CanMark : Watch → Watch → Type 0
-CanMark (watch.Between w) next = next ≡ watch.Marking (watching w)
+CanMark (watch.Between w) next = next ≡ watch.Marking (scanned_at_once w)
 CanMark (watch.Marking h) next = ⊥
-CanMark (watch.Ended left) next = next ≡ watch.Marking (watching left.world)
+CanMark (watch.Ended left) next = next ≡ watch.Marking (scanned_at_once left.world)
 CanMark watch.Stopped next = ⊥
 
 -- the reasons why marking can't begin: a cycle goes on, or the watch has stopped
@@ -123,45 +124,66 @@ WhyMark (watch.Marking h) y = y ≡ why.Misplaced
 WhyMark (watch.Ended left) y = ⊥
 WhyMark watch.Stopped y = y ≡ why.Misplaced
 
+-- the beginning of marking with later roots, outside of a cycle: the snapshot has no registers, and no mutator is scanned
+abbrev pub CanMarkShared : Watch → Watch → Type 0
+CanMarkShared (watch.Between w) next = next ≡ watch.Marking (beginning w)
+CanMarkShared (watch.Marking h) next = ⊥
+CanMarkShared (watch.Ended left) next = next ≡ watch.Marking (beginning left.world)
+CanMarkShared watch.Stopped next = ⊥
+
+-- a scan in a cycle, of a mutator that isn't scanned: its registers are read
+abbrev pub CanScan : ℕ → Watch → Watch → Type 0
+CanScan m (watch.Between w) next = ⊥
+CanScan m (watch.Marking h) next = (after : Hybrid) × IsScanned h m after × (next ≡ watch.Marking after)
+CanScan m (watch.Ended left) next = ⊥
+CanScan m watch.Stopped next = ⊥
+
+-- the reasons why a mutator can't be scanned: there is no cycle, there is no such mutator, or it is scanned already
+abbrev pub WhyScan : ℕ → Watch → Why → Type 0
+WhyScan m (watch.Between w) y = y ≡ why.Misplaced
+WhyScan m (watch.Marking h) y = IsNotScanned h m y
+WhyScan m (watch.Ended left) y = y ≡ why.Misplaced
+WhyScan m watch.Stopped y = y ≡ why.Misplaced
+
 -- a push in a cycle: of any name that the heap has, due or not, and at any time
 abbrev pub CanPush : Name → Watch → Watch → Type 0
 CanPush name (watch.Between w) next = ⊥
-CanPush name (watch.Marking h) next = (after : Cycle) × IsPushed h name after × (next ≡ watch.Marking after)
+CanPush name (watch.Marking h) next = (after : Cycle) × IsPushed h.watch name after × (next ≡ watch.Marking (record h { watch = after }))
 CanPush name (watch.Ended left) next = ⊥
 CanPush name watch.Stopped next = ⊥
 
 -- the reasons why a name can't have been pushed: there is no cycle, or the heap has no such name
 abbrev pub WhyPush : Name → Watch → Why → Type 0
 WhyPush name (watch.Between w) y = y ≡ why.Misplaced
-WhyPush name (watch.Marking h) y = (y ≡ why.NoSuchName name) × (IsSome (node_of h.world name) → ⊥)
+WhyPush name (watch.Marking h) y = (y ≡ why.NoSuchName name) × (IsSome (node_of h.watch.world name) → ⊥)
 WhyPush name (watch.Ended left) y = y ≡ why.Misplaced
 WhyPush name watch.Stopped y = y ≡ why.Misplaced
 
 -- a settle in a cycle: no debt is left from the mutator's commands
 abbrev pub CanSettle : ℕ → Watch → Watch → Type 0
 CanSettle m (watch.Between w) next = ⊥
-CanSettle m (watch.Marking h) next = IsSettled h m × (next ≡ watch.Marking h)
+CanSettle m (watch.Marking h) next = IsSettled h.watch m × (next ≡ watch.Marking h)
 CanSettle m (watch.Ended left) next = ⊥
 CanSettle m watch.Stopped next = ⊥
 
 -- the reasons why a mutator can't have settled: there is no cycle, a name is due by its commands, or there is no such mutator
 abbrev pub WhySettle : ℕ → Watch → Why → Type 0
 WhySettle m (watch.Between w) y = y ≡ why.Misplaced
-WhySettle m (watch.Marking h) y = IsUnsettled h m y
+WhySettle m (watch.Marking h) y = IsUnsettled h.watch m y
 WhySettle m (watch.Ended left) y = y ≡ why.Misplaced
 WhySettle m watch.Stopped y = y ≡ why.Misplaced
 
 -- a take in a cycle, of a name of the snapshot that was pushed. The marker's reads and their times aren't watched
 abbrev pub CanTake : Name → Watch → Watch → Type 0
 CanTake name (watch.Between w) next = ⊥
-CanTake name (watch.Marking h) next = (after : Cycle) × IsTook h name after × (next ≡ watch.Marking after)
+CanTake name (watch.Marking h) next = (after : Cycle) × IsTook h.watch name after × (next ≡ watch.Marking (record h { watch = after }))
 CanTake name (watch.Ended left) next = ⊥
 CanTake name watch.Stopped next = ⊥
 
 -- the reasons why a name can't have been taken: there is no cycle, or the name wasn't pushed
 abbrev pub WhyTake : Name → Watch → Why → Type 0
 WhyTake name (watch.Between w) y = y ≡ why.Misplaced
-WhyTake name (watch.Marking h) y = (y ≡ why.NotPushed name) × (Contains h.remembered name → ⊥)
+WhyTake name (watch.Marking h) y = (y ≡ why.NotPushed name) × (Contains h.watch.remembered name → ⊥)
 WhyTake name (watch.Ended left) y = y ≡ why.Misplaced
 WhyTake name watch.Stopped y = y ≡ why.Misplaced
 
@@ -209,24 +231,39 @@ abbrev pub IsEnding : Cycle → Result CycleResult Why → Type 0
 IsEnding h (Ok left) = IsLeft h left
 IsEnding h (Err y) = IsAgainst h y
 
--- the end of marking in a cycle without debts, with the result of the close
+-- a mutator of the cycle that isn't scanned, as a reason against the end of the cycle
+abbrev pub IsUnscanned : Hybrid → Why → Type 0
+IsUnscanned h y = (m : ℕ) × (y ≡ why.Unscanned m) × (m < length h.watch.world.mutators) × (is_scanned h m ≡ false)
+
+-- the outcome of a search for a mutator that isn't scanned
+abbrev pub IsUnscannedIf : Hybrid → Option ℕ → Type 0
+IsUnscannedIf h None = AreScanned h
+IsUnscannedIf h (Some m) = (m < length h.watch.world.mutators) × (is_scanned h m ≡ false)
+
+-- the outcome of a request to end a cycle with later roots: all mutators are scanned, and the result of the close, or a
+-- reason
+abbrev pub IsEndingIn : Hybrid → Result CycleResult Why → Type 0
+IsEndingIn h (Ok left) = AreScanned h × IsLeft h.watch left
+IsEndingIn h (Err y) = IsUnscanned h y ⊎ IsAgainst h.watch y
+
+-- the end of marking in a cycle without debts, with the result of the close; all mutators are scanned
 abbrev pub CanClose : Watch → Watch → Type 0
 CanClose (watch.Between w) next = ⊥
-CanClose (watch.Marking h) next = (left : CycleResult) × IsLeft h left × (next ≡ watch.Ended left)
+CanClose (watch.Marking h) next = (left : CycleResult) × IsLeft h.watch left × (next ≡ watch.Ended left) × AreScanned h
 CanClose (watch.Ended left) next = ⊥
 CanClose watch.Stopped next = ⊥
 
--- the reasons why marking can't end: there is no cycle, or there is a reason against the end of the cycle
+-- the reasons why marking can't end: there is no cycle, a mutator isn't scanned, or there is a reason against the cycle's end
 abbrev pub WhyClose : Watch → Why → Type 0
 WhyClose (watch.Between w) y = y ≡ why.Misplaced
-WhyClose (watch.Marking h) y = IsAgainst h y
+WhyClose (watch.Marking h) y = IsUnscanned h y ⊎ IsAgainst h.watch y
 WhyClose (watch.Ended left) y = y ≡ why.Misplaced
 WhyClose watch.Stopped y = y ≡ why.Misplaced
 
 -- the end of marking with a report of the weak pointers that die: exactly these die
 abbrev pub CanCloseWith : List Name → Watch → Watch → Type 0
 CanCloseWith named (watch.Between w) next = ⊥
-CanCloseWith named (watch.Marking h) next = (left : CycleResult) × IsResultWith h named left × (next ≡ watch.Ended left)
+CanCloseWith named (watch.Marking h) next = (left : CycleResult) × IsResultWith h.watch named left × (next ≡ watch.Ended left) × AreScanned h
 CanCloseWith named (watch.Ended left) next = ⊥
 CanCloseWith named watch.Stopped next = ⊥
 
@@ -244,10 +281,16 @@ abbrev pub IsEndingWith : Cycle → List Name → Result CycleResult Why → Typ
 IsEndingWith h named (Ok left) = IsResultWith h named left
 IsEndingWith h named (Err y) = IsAgainst h y ⊎ IsNotDead h named y
 
--- the reasons why marking can't end so that exactly these die: no cycle, a reason against its end, or one of them isn't dead
+-- the outcome of a request to end a cycle with later roots so that exactly these die
+abbrev pub IsEndingWithIn : Hybrid → List Name → Result CycleResult Why → Type 0
+IsEndingWithIn h named (Ok left) = AreScanned h × IsResultWith h.watch named left
+IsEndingWithIn h named (Err y) = IsUnscanned h y ⊎ (IsAgainst h.watch y ⊎ IsNotDead h.watch named y)
+
+-- the reasons why marking can't end so that exactly these die: no cycle, a mutator isn't scanned, a reason against the
+-- cycle's end, or one of them isn't dead
 abbrev pub WhyCloseWith : List Name → Watch → Why → Type 0
 WhyCloseWith named (watch.Between w) y = y ≡ why.Misplaced
-WhyCloseWith named (watch.Marking h) y = IsAgainst h y ⊎ IsNotDead h named y
+WhyCloseWith named (watch.Marking h) y = IsUnscanned h y ⊎ (IsAgainst h.watch y ⊎ IsNotDead h.watch named y)
 WhyCloseWith named (watch.Ended left) y = y ≡ why.Misplaced
 WhyCloseWith named watch.Stopped y = y ≡ why.Misplaced
 
@@ -334,12 +377,15 @@ WhyStop watch.Stopped y = y ≡ why.Misplaced
 -- an event of a line can happen in a state, with the state after it. Several commands: each is done after the commands before
 -- it. A settle: this mutator has no debt. A take: the name was pushed and is in the snapshot. A close: there are no debts,
 -- and if takes are reported, all pushed names except g were taken. A close that reports which weak pointers die: each is dead
--- if exactly these die. Marked: exactly the names that the cycle kept. Freed: names of the snapshot that the heap has, and
--- that neither the commands nor a weak pointer that lives on need. A stop: a cycle has ended
+-- if exactly these die. Either close: all mutators are scanned. A scan: this mutator isn't scanned. Marked: exactly the names
+-- that the cycle kept. Freed: names of the snapshot that the heap has, and that neither the commands nor a weak pointer that
+-- lives on need. A stop: a cycle has ended
 abbrev pub Can : ℕ → Watch → Event → Watch → Type 0
 Can line p (event.Given m c answer) next = CanGive line m c answer p next
 Can line p (event.Rows m commands) next = CanRows line m commands p next
 Can line p event.Mark next = CanMark p next
+Can line p event.MarkShared next = CanMarkShared p next
+Can line p (event.Scan m) next = CanScan m p next
 Can line p (event.Push name) next = CanPush name p next
 Can line p (event.Settle m) next = CanSettle m p next
 Can line p (event.Take name) next = CanTake name p next
@@ -354,6 +400,8 @@ abbrev pub IsWhy : Watch → Event → Why → Type 0
 IsWhy p (event.Given m c answer) y = WhyGive m c answer p y
 IsWhy p (event.Rows m commands) y = (line : ℕ) × (last : Watch) × WhyRows line m commands p y last
 IsWhy p event.Mark y = WhyMark p y
+IsWhy p event.MarkShared y = WhyMark p y
+IsWhy p (event.Scan m) y = WhyScan m p y
 IsWhy p (event.Push name) y = WhyPush name p y
 IsWhy p (event.Settle m) y = WhySettle m p y
 IsWhy p (event.Take name) y = WhyTake name p y
@@ -383,10 +431,16 @@ abbrev pub ClosedIsExact : Type 0
 ClosedIsExact = (h : Cycle) (left : CycleResult) → IsLeft h left ⊎ ((named : List Name) × IsResultWith h named left) → (w : World) → IsWorld w →
     (s next : State) → Beside w h s → IsPossible s core.Close → IsClosing s next → (name : Name) → Contains next.marked name ↔ Contains left.kept name
 
+-- the theorem that a closed cycle with later roots is exact, for both kinds of close, as a cycle with one snapshot
+abbrev pub ClosedLaterIsExact : Type 0
+ClosedLaterIsExact = (h : Hybrid) (left : CycleResult) → IsLeft h.watch left ⊎ ((named : List Name) × IsResultWith h.watch named left) → (w : World) →
+    IsWorld w → WatchesIn w h → (s next : State) → BesideIn w h s → IsPossible s core.Close → IsClosing s next → (name : Name) →
+    Contains next.marked name ↔ Contains left.kept name
+
 -- a watch whose heaps are closed, as in every watch that began with an empty heap
 abbrev pub AreClosed : Watch → Type 0
 AreClosed (watch.Between w) = IsWorld w
-AreClosed (watch.Marking h) = IsWorld h.world × IsWorld h.snapshot
+AreClosed (watch.Marking h) = IsWorld h.watch.world × IsWorld h.watch.snapshot
 AreClosed (watch.Ended left) = IsWorld left.world
 AreClosed watch.Stopped = Unit {0}
 

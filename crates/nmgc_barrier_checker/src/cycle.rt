@@ -3,19 +3,25 @@
 //! reported, the names that the marker took. Names that came due wait in a queue for each mutator (`accounts`), and a debt
 //! counts until its name is pushed. A cycle takes memory for each name and mutator, however long it is.
 //!
+//! If registers are read at scans, the names that a scan reads, and those that an unscanned mutator stores, count as opened.
+//! Which mutators are scanned is passed in (`scans`), since only commands depend on it (`watch` keeps it).
+//!
 //! Easy to get wrong: a name outside the snapshot has no position in a set. It can't be due; a push of it changes nothing.
-ghost use Rattle.std.specs.Prelude.{◌≡◌, ◌↔◌, ◌<◌, ◌++◌, length, IfOk, OnOk, IsSome, IsTrue};
-ghost use Rattle.nmgc_world_spec.specs.World.{node_of};
-ghost use Rattle.nmgc_barrier_checker.specs.{Dues.targets, Cycles.IsUntakenIn, Cycles.is_untaken};
+ghost use Rattle.std.specs.Prelude.{◌≡◌, ◌↔◌, ◌<◌, ◌++◌, false, length, slice_index_or, IfOk, OnOk, IsSome, IsTrue};
+ghost use Rattle.nmgc_world_spec.specs.{World.node_of, World.state_of, Step.next_name};
+ghost use Rattle.nmgc_barrier_checker.specs.{Dues.targets, Dues.handed_in, Cycles.IsUntakenIn, Cycles.is_untaken};
 
 use crate::accounts::Accounts;
-use crate::due::{Field, common_fields, is_owable, kept_by_weaks, missing_fields};
+use crate::due::{
+    Field, coming_field, common_fields, is_owable, kept_by_weaks, missing_fields, names_in,
+    owable_names, push_came,
+};
 use crate::event::Why;
 use crate::name_set::NameSet;
 use crate::rows::is_done;
 use nmgc_barrier_laws::Debt;
 use nmgc_graph::World;
-use nmgc_graph::opened::{finalised_by, opened_by};
+use nmgc_graph::opened::{finalised_by, names_among, opened_by};
 use nmgc_lists::{NoMemory, Queue};
 use nmgc_world_spec::{Command, Name, Reply};
 use std::alloc::Global;
@@ -47,19 +53,37 @@ impl Model for Cycle {
 
 impl Cycle {
     ghost use Rattle.nmgc_world_spec.specs.Known.{CanApply};
-    ghost use Rattle.nmgc_barrier_laws.specs.Cycle.{watching, IsPushed};
-    ghost use Rattle.nmgc_barrier_checker.specs.Cycles.{IsTaken, IsCommand, IsActing, IsPush, IsSettle, IsTake, IsLeastDebt, IsUntakenIf};
+    ghost use Rattle.nmgc_barrier_laws.specs.{Cycle.watching, Cycle.IsPushed, Hybrid.beginning};
+    ghost use Rattle.nmgc_barrier_checker.specs.Cycles.{IsSnapshotOf, with_scans, IsTaken, IsRead, IsCommand, IsActing, IsPush, IsSettle, IsTake, IsLeastDebt, IsUntakenIf};
 
     /// Begins a cycle with this world as its snapshot. Takes time and memory for each object, and for each name and mutator.
     pub fn new(world: &World) -> Result<Self, NoMemory>
         ensures { IfOk result (λ cycle. cycle ≡ watching world.now) }
     {
-        let alloc = world.alloc();
         let snapshot = world.copy()?;
-        let remembered = NameSet::new(world)?;
-        let accounts = Accounts::new(world)?;
-        let opened = NameSet::new(world)?;
-        let taken = NameSet::new(world)?;
+        Cycle::with_snapshot(world, snapshot)
+    }
+
+    /// Begins a cycle whose roots are g and the finaliser queues: the snapshot is the world without registers. Takes time and
+    /// memory as `new`.
+    pub fn without_registers(world: &World) -> Result<Self, NoMemory>
+        ensures { IfOk result (λ cycle. cycle ≡ (beginning world.now).watch) }
+    {
+        let snapshot = world.copy_without_registers()?;
+        Cycle::with_snapshot(world, snapshot)
+    }
+
+    // Begins a cycle with this snapshot of the world.
+    #[tactic(auto, using(crate::proofs::CycleLaws::new_cycle))]
+    fn with_snapshot(world: &World, snapshot: World) -> Result<Self, NoMemory>
+        requires { IsSnapshotOf world.now snapshot }
+        ensures { IfOk result (λ cycle. cycle ≡ record (watching world.now) { snapshot = snapshot }) }
+    {
+        let alloc = world.alloc();
+        let remembered = NameSet::new(&snapshot)?;
+        let accounts = Accounts::new(&snapshot)?;
+        let opened = NameSet::new(&snapshot)?;
+        let taken = NameSet::new(&snapshot)?;
         let world = world.copy()?;
         let finalised = Queue::new(alloc);
         Ok(Cycle {
@@ -94,16 +118,18 @@ impl Cycle {
     }
 
     /// Does a mutator's command if the heap can take it and gives this answer. Otherwise returns why not, and changes
-    /// nothing. Names that come due are due since `line`, unless they were pushed or the mutator owes them already. After
-    /// `NoMemory` any state is possible. Takes amortised constant time for each operand, and each field made or lost.
+    /// nothing. Names that come due are due since `line`, unless they were pushed or the mutator owes them already. A mutator
+    /// that isn't scanned also owes the names that it stores. After `NoMemory` any state is possible. Takes amortised constant
+    /// time for each operand, and each field made or lost.
     pub fn do_command(
         &mut self,
+        scans: &[bool],
         line: usize,
         mutator: u8,
         command: &Command,
         answer: Reply,
     ) -> Result<Option<Why>, NoMemory>
-        ensures { IfOk result (λ why. IsCommand line mutator command.now answer self.old why self.new) }
+        ensures { IfOk result (λ why. IsCommand line mutator command.now answer (with_scans scans.now self.old) why (with_scans scans.now self.new)) }
     {
         if !self.world.can_apply(mutator, command) {
             return Ok(Some(Why::CannotApply));
@@ -112,18 +138,19 @@ impl Cycle {
         if reply != answer {
             return Ok(Some(Why::Answer(reply)));
         }
-        self.give(line, mutator, command)?;
+        self.give(scans, line, mutator, command)?;
         Ok(None)
     }
 
     /// Does a mutator's command if the heap takes it with an answer that means done, or returns why not and changes nothing.
     pub fn act(
         &mut self,
+        scans: &[bool],
         line: usize,
         mutator: u8,
         command: &Command,
     ) -> Result<Option<Why>, NoMemory>
-        ensures { IfOk result (λ why. IsActing line mutator command.now self.old why self.new) }
+        ensures { IfOk result (λ why. IsActing line mutator command.now (with_scans scans.now self.old) why (with_scans scans.now self.new)) }
     {
         if !self.world.can_apply(mutator, command) {
             return Ok(Some(Why::CannotApply));
@@ -132,40 +159,55 @@ impl Cycle {
         if !is_done(reply) {
             return Ok(Some(Why::Answer(reply)));
         }
-        self.give(line, mutator, command)?;
+        self.give(scans, line, mutator, command)?;
         Ok(None)
     }
 
     // Does a mutator's command, whatever the heap answers. Requires that the world can take it. Adds the names of the
-    // snapshot that it opens, and the weak pointers that it finalises. Afterwards each name that came due was pushed, or is a
-    // debt of this mutator. A new debt gets the line `line`.
-    fn give(&mut self, line: usize, mutator: u8, command: &Command) -> Result<(), NoMemory>
+    // snapshot that it opens, or stores before its mutator is scanned (`scans`), and the weak pointers that it finalises.
+    // Afterwards each name that came due was pushed, or is a debt of this mutator. A new debt gets the line `line`.
+    fn give(
+        &mut self,
+        scans: &[bool],
+        line: usize,
+        mutator: u8,
+        command: &Command,
+    ) -> Result<(), NoMemory>
         requires { CanApply self.old.world mutator command.now }
-        ensures { OnOk result (IsTaken line mutator command.now self.old self.new) }
+        ensures { OnOk result (IsTaken line mutator command.now (with_scans scans.now self.old) (with_scans scans.now self.new)) }
     {
         let fields = common_fields(&self.snapshot, &self.world, mutator, command)?;
         let opens = opened_by(&self.world, mutator, command)?;
         let ends = finalised_by(&self.world, mutator, command)?;
         let kept = kept_by_weaks(&self.snapshot, ends.as_slice())?;
+        let coming = coming_field(&self.world, mutator, command);
+        let made = next_name(&self.world, mutator);
         self.opened.extend(&self.snapshot, opens.as_slice())?;
         self.finalised.extend(ends.as_slice())?;
         self.world.apply(mutator, command)?;
         let lost = missing_fields(&self.world, fields.items())?;
-        let names = due_candidates(
-            self.world.alloc(),
-            lost.items(),
-            opens.as_slice(),
-            kept.as_slice(),
-        )?;
+        let seen = is_set(scans, mutator);
+        let handed = handed_out(seen, &self.snapshot, &self.world, made, coming)?;
+        self.opened.extend(&self.snapshot, handed.as_slice())?;
+        let alloc = self.world.alloc();
+        let mut names = due_candidates(alloc, lost.items(), opens.as_slice(), kept.as_slice())?;
+        names.extend_from_slice(handed.as_slice())?;
         let came = count_due(&self.snapshot, names.as_slice());
         self.dues = self.dues.saturating_add(came);
-        self.accounts.owe(
-            &self.snapshot,
-            &self.remembered.set,
-            line,
-            mutator,
-            names.as_slice(),
-        )?;
+        let marks = &self.remembered.set;
+        self.accounts
+            .owe(&self.snapshot, marks, line, mutator, names.as_slice())?;
+        Ok(())
+    }
+
+    /// Reads the registers of a mutator: the names of the snapshot in them count as opened. After `NoMemory` some may. Takes
+    /// amortised constant time for each register.
+    pub fn read_registers(&mut self, mutator: u8) -> Result<(), NoMemory>
+        requires { mutator < length self.old.world.mutators }
+        ensures { OnOk result (IsRead mutator self.old self.new) }
+    {
+        let names = names_among(self.world.alloc(), self.world.registers(mutator))?;
+        self.opened.extend(&self.snapshot, names.as_slice())?;
         Ok(())
     }
 
@@ -263,6 +305,49 @@ fn is_untaken(taken: &NameSet, name: Name) -> bool
     ensures { result ≡ is_untaken taken.now name }
 {
     name != Name::SHARED && !taken.has(name)
+}
+
+/// Whether there is a flag for a mutator, and it is set.
+pub(crate) fn is_set(flags: &[bool], mutator: u8) -> bool
+    ensures { result ≡ slice_index_or flags.now mutator false }
+{
+    let place = mutator as usize;
+    if place >= flags.len() {
+        return false;
+    }
+    flags[place]
+}
+
+// Returns the names that a command handed out, by the world after it: none if its mutator is scanned. `made` is the name
+// of the object that it may have made, and `coming` the field that it may have written.
+fn handed_out(
+    is_scanned: bool,
+    snapshot: &World,
+    world: &World,
+    made: Name,
+    coming: Option<Field>,
+) -> Result<Vec<Name>, NoMemory>
+    ensures { IfOk result (λ names. names.items ≡ handed_in is_scanned snapshot.now world.now made coming) }
+{
+    let mut names = Vec::new(world.alloc());
+    if is_scanned {
+        return Ok(names);
+    }
+    push_came(&mut names, world, coming)?;
+    let stored = names_in(world, made)?;
+    names.extend_from_slice(stored.as_slice())?;
+    owable_names(snapshot, names.as_slice())
+}
+
+// Returns the name of the next object that a mutator makes.
+fn next_name(world: &World, mutator: u8) -> Name
+    requires { mutator < length world.now.mutators }
+    ensures { result ≡ next_name (state_of world.now mutator) mutator }
+{
+    Name {
+        maker: mutator,
+        serial: world.serial(mutator),
+    }
 }
 
 // Whether there is a mutator with this number.

@@ -4,19 +4,25 @@
 //! are noted before the command (`common_fields`), and those that the world doesn't have after it are found
 //! (`missing_fields`). The names that a finalised weak pointer kept are read in the snapshot.
 //!
+//! A mutator whose registers aren't read yet also makes the names due that it stores. A command writes at most one field,
+//! which is noted if the world doesn't have it before the command (`coming_field`), or makes one object. After the command
+//! the field is there or not (`push_came`), and the names in the new object are read (`names_in`).
+//!
 //! Easy to get wrong: a field of the snapshot that was broken is whole again only if its target is written back to the same
 //! position of the same object. Another field with the same target is no field of the snapshot.
-ghost use Rattle.std.specs.Prelude.{◌≡◌, ◌<◌, ◌≤◌, ◌++◌, true, length, filter, not, option_to_list, Some, IfOk, OnOk, Contains};
+ghost use Rattle.std.specs.Prelude.{◌≡◌, ◌<◌, ◌≤◌, ◌++◌, true, false, length, filter, not, option_to_list, Some, IfOk, OnOk, Contains};
 ghost use Rattle.nmgc_world_spec.specs.{Command.HasRegisters, World.node_of, Owed.names_among};
-ghost use Rattle.nmgc_world_laws.specs.Holds.{strong_at};
+ghost use Rattle.nmgc_world_laws.specs.{Holds.strong_at, Stored.place_written, Stored.value_written};
 ghost use Rattle.nmgc_snapshot_laws.specs.Machine.{is_pushed_in};
-ghost use Rattle.nmgc_barrier_checker.specs.{declared.due.Field.Field as FieldAt, Dues.strong_in, Dues.is_ref_to, Dues.stands_in, Dues.first_place, Dues.end_place, Dues.IsStanding, Dues.kept_then};
+ghost use Rattle.nmgc_barrier_checker.specs.{declared.due.Field.Field as FieldAt, Dues.strong_in, Dues.is_ref_to, Dues.stands_in, Dues.first_place, Dues.end_place, Dues.IsStanding, Dues.IsComing, Dues.came_in, Dues.kept_then, Dues.stored_values, Dues.values_in};
 ghost use Rattle.nmgc_world_spec.specs.declared.node.Node.TheVariants as NodeIs;
+ghost use Rattle.nmgc_world_spec.specs.declared.value.Value.TheVariants as ValueIs;
 
 use nmgc_graph::World;
 use nmgc_graph::opened::names_among;
 use nmgc_lists::{List, NoMemory};
 use nmgc_world_spec::{Change, Command, Name, Node, Value};
+use std::alloc::Global;
 use std::slice;
 
 /// A strong field that refers to a target: the object, the position in it, and the target.
@@ -231,6 +237,155 @@ pub(crate) fn kept_by_weaks(snapshot: &World, weaks: &[Name]) -> Result<Vec<Name
         }
     }
     Ok(names)
+}
+
+// Returns the position of the field that a change of an object writes, if it writes one.
+fn place_written(change: Change, node: &Node) -> Option<usize>
+    ensures { result ≡ place_written change node.now }
+{
+    match change {
+        Change::Set { index, value: _ } => Some(index as usize),
+        Change::Exchange {
+            index,
+            expected: _,
+            value: _,
+        } => Some(index as usize),
+        Change::Update { value: _ } => Some(0),
+        Change::Push {
+            mutator: _,
+            value: _,
+        } => match node {
+            Node::Stack { size: _, values } => Some(values.items().len()),
+            _ => None,
+        },
+        Change::Pop { mutator: _ } | Change::Finalise => None,
+    }
+}
+
+// Returns the value that a change writes, if it writes one.
+fn value_written(change: Change) -> Option<Value>
+    ensures { result ≡ value_written change }
+{
+    match change {
+        Change::Set { index: _, value } => Some(value),
+        Change::Exchange {
+            index: _,
+            expected: _,
+            value,
+        } => Some(value),
+        Change::Update { value } => Some(value),
+        Change::Push { mutator: _, value } => Some(value),
+        Change::Pop { mutator: _ } | Change::Finalise => None,
+    }
+}
+
+// Returns the field that a change of an object writes, if it writes a reference and the world doesn't have the field yet.
+fn written_field(world: &World, name: Name, change: Change, node: &Node) -> Option<Field>
+    ensures some { (f : FieldAt) → result ≡ Some f → stands_in world.now f ≡ false }
+    ensures all { (f : FieldAt) → f.name ≡ name → place_written change node.now ≡ Some f.place →
+        value_written change ≡ Some (ValueIs.Ref f.target) → stands_in world.now f ≡ false → result ≡ Some f }
+{
+    let place = place_written(change, node)?;
+    let Some(Value::Ref(target)) = value_written(change) else {
+        return None;
+    };
+    let field = Field {
+        name,
+        place,
+        target,
+    };
+    if has_field(world, field) {
+        None
+    } else {
+        Some(field)
+    }
+}
+
+/// Returns the field that a command may write, if it writes a reference and the world doesn't have the field yet. Takes no
+/// memory and constant time.
+pub(crate) fn coming_field(world: &World, mutator: u8, command: &Command) -> Option<Field>
+    requires mutator { mutator < length world.now.mutators }
+    requires registers { HasRegisters command.now }
+    ensures { IsComing world.now mutator command.now result }
+{
+    match world.asked_change(mutator, command) {
+        Some((Value::Ref(name), change)) => match world.node(name) {
+            Some(node) => written_field(world, name, change, node),
+            None => None,
+        },
+        _ => None,
+    }
+}
+
+/// Appends the target of the field that came, if there is such a field and the world has it.
+pub(crate) fn push_came(
+    names: &mut Vec<Name>,
+    world: &World,
+    coming: Option<Field>,
+) -> Result<(), NoMemory>
+    ensures { OnOk result (names.new.items ≡ names.old.items ++ option_to_list (came_in world.now coming)) }
+{
+    match came(world, coming) {
+        Some(target) => {
+            names.push(target)?;
+            Ok(())
+        }
+        None => Ok(()),
+    }
+}
+
+// Returns the target of the field that came, if there is such a field and the world has it.
+fn came(world: &World, coming: Option<Field>) -> Option<Name>
+    ensures { result ≡ came_in world.now coming }
+{
+    let field = coming?;
+    if has_field(world, field) {
+        Some(field.target)
+    } else {
+        None
+    }
+}
+
+/// Returns the names that an object stores, in strong fields or as parts of a weak pointer; none if there is no object.
+pub(crate) fn names_in(world: &World, name: Name) -> Result<Vec<Name>, NoMemory>
+    ensures { IfOk result (λ names. names.items ≡ names_among (values_in (node_of world.now name))) }
+{
+    match world.node(name) {
+        Some(node) => stored_names(world.alloc(), node),
+        None => names_among(world.alloc(), &[]),
+    }
+}
+
+// Returns the names that a node stores, in strong fields or as parts of a weak pointer.
+fn stored_names(alloc: Global, node: &Node) -> Result<Vec<Name>, NoMemory>
+    ensures { IfOk result (λ names. names.items ≡ names_among (stored_values node.now)) }
+{
+    match node {
+        Node::Con { tag: _, values } | Node::Arr { values } => names_among(alloc, values.items()),
+        Node::Stack { size: _, values } => names_among(alloc, values.items()),
+        Node::Var { value } => names_among(alloc, &[*value]),
+        Node::Thunk { free, result } => match *result {
+            Some(value) => names_among(alloc, &[value]),
+            None => names_among(alloc, free.items()),
+        },
+        Node::Weak { parts } => match *parts {
+            Some(parts) => names_among(alloc, &[parts.key, parts.value, parts.finaliser]),
+            None => names_among(alloc, &[]),
+        },
+    }
+}
+
+/// Returns those names that may be due.
+pub(crate) fn owable_names(snapshot: &World, names: &[Name]) -> Result<Vec<Name>, NoMemory>
+    ensures { IfOk result (λ owable. owable.items ≡ filter (is_pushed_in snapshot.now) names.now) }
+{
+    let mut owable = Vec::new(snapshot.alloc());
+    for name in names {
+        if is_owable(snapshot, *name) {
+            owable.push(*name)?;
+        }
+    }
+    Ok(owable)
 }
 
 /// Whether a name may come due: it is in the snapshot and isn't g. Takes no memory and constant time.

@@ -20,6 +20,12 @@ pub enum Event {
     },
     /// Marking begins: the world is the snapshot.
     Mark,
+    /// Marking begins with the shared array and the finaliser queues as its only roots. Registers are read at scans.
+    MarkShared,
+    /// The registers of a mutator are read, once in a cycle that began with `MarkShared`.
+    Scan {
+        mutator: u8,
+    },
     /// A barrier, or the collector itself, remembered the name.
     Push {
         name: Name,
@@ -32,7 +38,7 @@ pub enum Event {
     Take {
         name: Name,
     },
-    /// Marking ends. A weak pointer dies if neither the commands nor the pushes keep its key.
+    /// Marking ends, with all mutators scanned. A weak pointer dies if neither the commands nor the pushes keep its key.
     Close,
     /// Marking ends, and exactly these weak pointers die, in the order of their names. If there are no names, none dies.
     CloseWith {
@@ -53,7 +59,7 @@ pub enum Event {
 /// The reason why an event can't have happened. Each reason is a fact about the cycle and the event.
 #[derive(Clone, Copy, Debug, PartialEq, Eq)]
 pub enum Why {
-    /// No event of this kind can happen here: in a cycle, between cycles, or after the stop.
+    /// No event of this kind can happen here: in a cycle, between cycles, or after the stop. Or a mutator is scanned already.
     Misplaced,
     /// There is no such mutator (also for a settle, or for zero commands in a line) or register, or there is no serial left.
     CannotApply,
@@ -67,6 +73,8 @@ pub enum Why {
     NotPushed(Name),
     /// Takes are reported, and this name was pushed and isn't among them.
     Untaken(Name),
+    /// The registers of this mutator weren't read in the cycle.
+    Unscanned(u8),
     /// The weak pointer isn't dead: the commands or a weak pointer that lives on keep its key, or the key is no object. Or it
     /// wasn't alive at the snapshot, or was finalised since.
     NotDead(Name),

@@ -1,5 +1,5 @@
 //! The theorems of the watch. Each function does nothing: its contract is the law.
-ghost use Rattle.nmgc_barrier_checker.specs.Watching.{ReasonsRefuse, EveryEventIsJudged, ClosedIsExact, KeptIsMarked, NeededIsKept};
+ghost use Rattle.nmgc_barrier_checker.specs.Watching.{ReasonsRefuse, EveryEventIsJudged, ClosedIsExact, ClosedLaterIsExact, KeptIsMarked, NeededIsKept};
 
 /// Proves that an event can't happen, if there is a reason against it. So `Watch::step` refuses no event that can happen.
 pub fn a_reason_refuses()
@@ -17,6 +17,12 @@ pub fn every_event_is_judged()
 /// world (`Beside`), since a trace doesn't show the marker. The close may report which weak pointers die, or not.
 pub fn a_closed_cycle_marked_what_it_had_to()
     ensures { ClosedIsExact }
+{}
+
+/// Proves that a cycle whose registers are read at scans has marked exactly the kept names if it closes without debts. The
+/// roots as they were read keep these, along with opened names, names stored by unscanned mutators, and pushes.
+pub fn a_closed_hybrid_cycle_marked_what_it_had_to()
+    ensures { ClosedLaterIsExact }
 {}
 
 /// Proves that each name kept by the commands alone is kept by commands and pushes (`MarksName`), if the snapshot is a world.

@@ -1,14 +1,15 @@
 //! A runtime's barrier, watched from one event to the next. Each event is taken if it can have happened (`specs/Watching`,
-//! `Can`), and otherwise refused with a reason that is a fact.
+//! `Can`), and otherwise refused with a reason that is a fact. The roots are read when marking begins, or the registers of
+//! each mutator are read later, at a scan of its own.
 //!
 //! Easy to get wrong: a refused event changes nothing, so a test can go on. But the commands before it in its line stay done.
-ghost use Rattle.std.specs.Prelude.{◌≡◌, ◌↔◌, ◌<◌, ◌≤◌, length, IfOk, IsTrue};
+ghost use Rattle.std.specs.Prelude.{◌≡◌, ◌↔◌, ◌<◌, ◌≤◌, true, length, replicate, slice_set, IfOk, IsTrue};
 ghost use Rattle.nmgc_world_spec.specs.World.{new_world};
 ghost use Rattle.nmgc_barrier_checker.specs.Watching.{IsStep, IsGivenIf, IsAct, IsDoneIf, AreActed, is_stopped, mutators_of};
 ghost use Rattle.nmgc_barrier_checker.specs.declared.event.Event.TheVariants as event;
 ghost use Rattle.nmgc_barrier_checker.specs.declared.watch.Watch.TheVariants as watch;
 
-use crate::cycle::Cycle;
+use crate::cycle::{Cycle, is_set};
 use crate::cycle_result::CycleResult;
 use crate::event::{Event, Why};
 use crate::rows::is_done;
@@ -20,51 +21,136 @@ use std::alloc::Global;
 use std::marker::Model;
 
 /// A cycle that goes on, in its own memory, so that a watch is small: a type may have at most 8,192 parts. A `List` counts
-/// the parts of its items three times, so a world alone has 2,989. Contracts see the cycle itself.
+/// the parts of its items three times, so a world alone has 2,989. `scans` has a flag for each mutator: its registers were
+/// read. Contracts see the cycle itself, with the flags.
 #[derive(Drop)]
 pub struct Running {
     cycle: Box<Cycle>,
+    scans: List<bool>,
 }
 
 impl Model for Running {
-    ghost use Rattle.nmgc_barrier_laws.specs.Cycle.{Cycle as Seen};
+    ghost use Rattle.nmgc_barrier_laws.specs.Hybrid.{Hybrid};
 
-    ghost Value = { Seen };
+    ghost Value = { Hybrid };
 
-    ghost view = { λ r. r.cycle.value };
+    ghost view = { λ r. record { watch = r.cycle.value; scanned = r.scans } };
 }
 
 impl Running {
-    ghost use Rattle.nmgc_barrier_laws.specs.Cycle.{watching};
-    ghost use Rattle.nmgc_barrier_checker.specs.{Cycles.IsSettle, Watching.IsEnding, Watching.IsEndingWith};
+    ghost use Rattle.nmgc_barrier_laws.specs.Hybrid.{scanned_at_once, beginning, is_scanned};
+    ghost use Rattle.nmgc_barrier_checker.specs.{Cycles.IsCommand, Cycles.IsActing, Cycles.IsScan, Cycles.IsSettle, Watching.IsUnscannedIf, Watching.IsEndingIn, Watching.IsEndingWithIn};
 
-    // Begins a cycle with this world as its snapshot. Takes the time and memory of `Cycle::new`.
+    // Begins a cycle with this world as its snapshot and all mutators scanned. Takes the time and memory of `Cycle::new`.
     fn new(world: &World) -> Result<Self, NoMemory>
-        ensures { IfOk result (λ running. running ≡ watching world.now) }
+        ensures { IfOk result (λ running. running ≡ scanned_at_once world.now) }
     {
         let cycle = Cycle::new(world)?;
+        let scans = flags(world.alloc(), true, world.mutators() as usize)?;
         Ok(Running {
             cycle: Box::new(world.alloc(), cycle)?,
+            scans,
+        })
+    }
+
+    // Begins a cycle with the world without registers as its snapshot, and no mutator scanned.
+    fn without_registers(world: &World) -> Result<Self, NoMemory>
+        ensures { IfOk result (λ running. running ≡ beginning world.now) }
+    {
+        let cycle = Cycle::without_registers(world)?;
+        let scans = flags(world.alloc(), false, world.mutators() as usize)?;
+        Ok(Running {
+            cycle: Box::new(world.alloc(), cycle)?,
+            scans,
         })
     }
 
     /// Returns the cycle that goes on. Takes no memory and constant time.
     pub fn cycle(&self) -> &Cycle
-        ensures { result.now ≡ self.now }
+        ensures { result.now ≡ self.now.watch }
     {
         &self.cycle
     }
 
     // Returns the number of mutators.
     fn mutators(&self) -> u8
-        ensures { result ≡ length self.now.world.mutators }
+        ensures { result ≡ length self.now.watch.world.mutators }
     {
         self.cycle.world().mutators()
     }
 
+    // Does a mutator's command if the heap can take it and gives this answer, as `Cycle::do_command`.
+    fn do_command(
+        &mut self,
+        line: usize,
+        mutator: u8,
+        command: &Command,
+        answer: Reply,
+    ) -> Result<Option<Why>, NoMemory>
+        ensures { IfOk result (λ why. IsCommand line mutator command.now answer self.old why self.new) }
+    {
+        self.cycle
+            .do_command(self.scans.items(), line, mutator, command, answer)
+    }
+
+    // Does one of several commands in a line, as `Cycle::act`.
+    fn act(&mut self, line: usize, mutator: u8, command: &Command) -> Result<Option<Why>, NoMemory>
+        ensures { IfOk result (λ why. IsActing line mutator command.now self.old why self.new) }
+    {
+        self.cycle.act(self.scans.items(), line, mutator, command)
+    }
+
+    // Whether the mutator is scanned.
+    fn is_scanned(&self, mutator: u8) -> bool
+        ensures { result ≡ is_scanned self.now mutator }
+    {
+        is_set(self.scans.items(), mutator)
+    }
+
+    // Scans a mutator, or returns the reason why it can't be scanned and changes nothing.
+    fn scan(&mut self, mutator: u8) -> Result<Option<Why>, NoMemory>
+        ensures { IfOk result (λ why. IsScan mutator self.old why self.new) }
+    {
+        if mutator >= self.mutators() {
+            return Ok(Some(Why::CannotApply));
+        }
+        if self.is_scanned(mutator) {
+            return Ok(Some(Why::Misplaced));
+        }
+        self.cycle.read_registers(mutator)?;
+        set_flag(&mut self.scans, mutator);
+        Ok(None)
+    }
+
+    // Takes the push of a name, as `Cycle::push`.
+    fn push(&mut self, name: Name) -> Result<Option<Why>, NoMemory>
+        ensures { IfOk result (λ why. IsStep 0 (watch.Marking self.old) (event.Push name) why (watch.Marking self.new)) }
+    {
+        self.cycle.push(name)
+    }
+
+    // Adds a name that the marker took, as `Cycle::take`.
+    fn take(&mut self, name: Name) -> Result<Option<Why>, NoMemory>
+        ensures { IfOk result (λ why. IsStep 0 (watch.Marking self.old) (event.Take name) why (watch.Marking self.new)) }
+    {
+        self.cycle.take(name)
+    }
+
+    // Returns the first mutator that isn't scanned, or `None` if all mutators are.
+    fn first_unscanned(&self) -> Option<u8>
+        ensures { IsUnscannedIf self.now result }
+    {
+        for mutator in 0..self.mutators() {
+            if !self.is_scanned(mutator) {
+                return Some(mutator);
+            }
+        }
+        None
+    }
+
     // Returns the reason why a mutator hasn't settled its debts or doesn't exist, or `None` if there is no such reason.
     fn reason_against_settle(&mut self, mutator: u8) -> Option<Why>
-        ensures settle { IsSettle mutator self.old result }
+        ensures settle { IsSettle mutator self.old.watch result }
         ensures same { self.new ≡ self.old }
     {
         self.cycle.reason_against_settle(mutator)
@@ -72,16 +158,22 @@ impl Running {
 
     // Returns the result of a close without reported deaths, or a reason why the cycle can't end.
     fn result_or_why(&self) -> Result<Result<CycleResult, Why>, NoMemory>
-        ensures { IfOk result (IsEnding self.now) }
+        ensures { IfOk result (IsEndingIn self.now) }
     {
-        self.cycle().result_or_why()
+        match self.first_unscanned() {
+            Some(mutator) => Ok(Err(Why::Unscanned(mutator))),
+            None => self.cycle().result_or_why(),
+        }
     }
 
     // Returns the result of a close at which exactly these weak pointers die, or a reason against such a close.
     fn result_or_why_with(&self, named: &[Name]) -> Result<Result<CycleResult, Why>, NoMemory>
-        ensures { IfOk result (IsEndingWith self.now named.now) }
+        ensures { IfOk result (IsEndingWithIn self.now named.now) }
     {
-        self.cycle().result_or_why_with(named)
+        match self.first_unscanned() {
+            Some(mutator) => Ok(Err(Why::Unscanned(mutator))),
+            None => self.cycle().result_or_why_with(named),
+        }
     }
 }
 
@@ -112,11 +204,12 @@ impl Watch {
     /// caller's, by which a debt is reported. A refused event changes nothing, but several commands in one line
     /// (`Event::Rows`) are done up to the refused command. After `NoMemory` the watch may be in any state.
     ///
-    /// A push, a take and a settled mutator take amortised constant time. A command, alone or among several in a line, takes
-    /// that time for each operand, each field of an object that it makes, and each field that it may remove. The beginning of
-    /// a cycle and the stop take time for each object, and the end of a cycle for each object and each field. A report of
-    /// marked names takes time for each kept name, and each reported name a binary search. Memory grows with the heap alone.
-    /// A cycle has two worlds (or three, as it begins or ends), and a few bytes for each name and mutator.
+    /// A push, a take and a settled mutator take amortised constant time, and a scan for each register. A command, alone or
+    /// among several in a line, takes that time for each operand, each field of an object that it makes, and each field that
+    /// it may remove. The beginning of a cycle and the stop take time for each object, and the end of a cycle for each object
+    /// and each field. A report of marked names takes time for each kept name, and each reported name a binary search. Memory
+    /// grows with the heap alone. A cycle has two worlds (or three, as it begins or ends), and a few bytes for each name and
+    /// mutator.
     pub fn step(&mut self, line: usize, event: &Event) -> Result<Option<Why>, NoMemory>
         ensures { IfOk result (λ why. IsStep line self.old event.now why self.new) }
     {
@@ -128,6 +221,8 @@ impl Watch {
             } => self.give(line, *mutator, command, *answer),
             Event::Rows { mutator, commands } => self.do_line(line, *mutator, commands.items()),
             Event::Mark => self.mark(),
+            Event::MarkShared => self.mark_shared(),
+            Event::Scan { mutator } => self.scan(*mutator),
             Event::Push { name } => self.push(*name),
             Event::Settle { mutator } => Ok(self.reason_against_settle(*mutator)),
             Event::Take { name } => self.take(*name),
@@ -170,7 +265,7 @@ impl Watch {
     {
         match self {
             Watch::Between(world) => give(world, mutator, command, answer),
-            Watch::Marking(running) => running.cycle.do_command(line, mutator, command, answer),
+            Watch::Marking(running) => running.do_command(line, mutator, command, answer),
             Watch::Ended(left) => give(&mut left.world, mutator, command, answer),
             Watch::Stopped => Ok(Some(Why::Misplaced)),
         }
@@ -248,7 +343,7 @@ impl Watch {
     {
         match self {
             Watch::Between(world) => act(world, mutator, command),
-            Watch::Marking(running) => running.cycle.act(line, mutator, command),
+            Watch::Marking(running) => running.act(line, mutator, command),
             Watch::Ended(left) => act(&mut left.world, mutator, command),
             Watch::Stopped => Ok(Some(Why::Misplaced)),
         }
@@ -267,12 +362,35 @@ impl Watch {
         Ok(None)
     }
 
+    // Begins marking with later roots, or returns the reason why marking can't begin.
+    fn mark_shared(&mut self) -> Result<Option<Why>, NoMemory>
+        ensures { IfOk result (λ why. IsStep 0 self.old event.MarkShared why self.new) }
+    {
+        let running = match self {
+            Watch::Between(world) => Running::without_registers(world)?,
+            Watch::Ended(left) => Running::without_registers(&left.world)?,
+            Watch::Stopped | Watch::Marking(_) => return Ok(Some(Why::Misplaced)),
+        };
+        *self = Watch::Marking(running);
+        Ok(None)
+    }
+
+    // Scans a mutator, or returns the reason why it can't be scanned.
+    fn scan(&mut self, mutator: u8) -> Result<Option<Why>, NoMemory>
+        ensures { IfOk result (λ why. IsStep 0 self.old (event.Scan mutator) why self.new) }
+    {
+        match self {
+            Watch::Marking(running) => running.scan(mutator),
+            Watch::Between(_) | Watch::Ended(_) | Watch::Stopped => Ok(Some(Why::Misplaced)),
+        }
+    }
+
     // Takes the push of a name (`Cycle::push`), or returns the reason why the name can't have been pushed.
     fn push(&mut self, name: Name) -> Result<Option<Why>, NoMemory>
         ensures { IfOk result (λ why. IsStep 0 self.old (event.Push name) why self.new) }
     {
         match self {
-            Watch::Marking(running) => running.cycle.push(name),
+            Watch::Marking(running) => running.push(name),
             Watch::Between(_) | Watch::Ended(_) | Watch::Stopped => Ok(Some(Why::Misplaced)),
         }
     }
@@ -292,7 +410,7 @@ impl Watch {
         ensures { IfOk result (λ why. IsStep 0 self.old (event.Take name) why self.new) }
     {
         match self {
-            Watch::Marking(running) => running.cycle.take(name),
+            Watch::Marking(running) => running.take(name),
             Watch::Between(_) | Watch::Ended(_) | Watch::Stopped => Ok(Some(Why::Misplaced)),
         }
     }
@@ -368,6 +486,24 @@ impl Watch {
         *self = Watch::Stopped;
         None
     }
+}
+
+// Returns a list of `count` equal flags.
+fn flags(alloc: Global, flag: bool, count: usize) -> Result<List<bool>, NoMemory>
+    ensures { IfOk result (λ flags. flags ≡ replicate count flag) }
+{
+    List::from_vec(vec![in alloc; flag; count]?)
+}
+
+// Sets the flag of a mutator, if there is one.
+fn set_flag(flags: &mut List<bool>, mutator: u8)
+    ensures { flags.new ≡ slice_set flags.old mutator true }
+{
+    let place = mutator as usize;
+    if place >= flags.items().len() {
+        return;
+    }
+    flags.items_mut()[place] = true;
 }
 
 // Does a command in the world if the world can take it and gives this answer. Otherwise returns why not and changes nothing.

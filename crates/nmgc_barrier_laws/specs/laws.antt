@@ -1,10 +1,19 @@
 pub mod Beside
+pub mod Commutes
 pub mod CoreIsLax
 pub mod Finishing
 pub mod Floating
 pub mod Given
 pub mod LaxRuns
+pub mod HybridBeside
+pub mod HybridCommand
+pub mod HybridCommands
+pub mod HybridFacts
+pub mod HybridFinishing
+pub mod HybridSafe
+pub mod HybridTied
 pub mod Laxer
 pub mod Tied
 pub mod TiedPush
+pub mod Veil
 mod Vocabulary

@@ -1,11 +1,12 @@
-//! Theorems of the lax rule, a watched barrier and finished markers. Each function does nothing: its contract is the law.
+//! Theorems of the lax rule, a watched barrier, finished markers and roots that are read later (`specs/Hybrid`). Each
+//! function does nothing: its contract is the law.
 //!
 //! By the strict rule of the marking machine, a command owes exactly `owed_by`. By the lax rule (`specs/Lax`) it owes all due
 //! names (`specs/Due`) that aren't marked, owed or pushed yet, and perhaps others that may be held. A *lax step* is such a
 //! command, another order of waiting names, a push, a mark of a name that may be held, or a scan. A *watched cycle* sees only
 //! commands, pushes and reports of taken names (`Watches`). Its debts are due names not yet pushed. Worlds are closed
 //! (`IsWorld`).
-ghost use Rattle.nmgc_barrier_laws.specs.{Barrier.BarrierTheorem, Barrier.JointTheorem, Barrier.SomeMarkerFinishes, Barrier.SomeMarkerIsBeside, Lax.CoreIsLax, Lax.LaxKeepsFacts, Lax.LaxTheorem};
+ghost use Rattle.nmgc_barrier_laws.specs.{Barrier.BarrierTheorem, Barrier.JointTheorem, Barrier.SomeMarkerFinishes, Barrier.SomeMarkerIsBeside, Hybrid.HybridJointTheorem, Hybrid.HybridSafetyTheorem, Hybrid.ScansAtOnceAreRoots, Hybrid.SomeMarkerFinishesIn, Hybrid.SomeMarkerIsBesideIn, Lax.CoreIsLax, Lax.LaxKeepsFacts, Lax.LaxTheorem};
 
 /// Proves that each event that the marking machine does, except the end, is a list of lax steps. Requires that the marking
 /// machine's invariant (`Facts`) holds before the event, and that the world is closed (`IsWorld`).
@@ -48,4 +49,33 @@ pub fn a_marker_is_possible()
 /// Proves that there is a finished marker beside each watched cycle. So `a_finished_marker_is_exact` isn't an empty claim.
 pub fn a_finished_marker_is_possible()
     ensures { SomeMarkerFinishes }
+{}
+
+/// Proves that a finished marker is exact if each mutator's registers are read at its own scan. Beside commands, scans and
+/// pushes that leave no debts, a finished marker can end. It marks exactly the names that the roots as they were read keep in
+/// the snapshot, along with opened names, names stored by unscanned mutators, and pushes. Exactly the dead weak pointers die.
+pub fn a_hybrid_marker_is_exact()
+    ensures { HybridJointTheorem }
+{}
+
+/// Proves that a cycle with later roots loses nothing, if all mutators are scanned and nothing is due. Every name that can be
+/// reached and was there at the mark is live by the roots as they were read, given the names opened and remembered.
+pub fn a_hybrid_cycle_loses_nothing()
+    ensures { HybridSafetyTheorem }
+{}
+
+/// Proves that there is a marker beside each cycle with later roots (`BesideIn`), whatever the cycle has seen.
+pub fn a_hybrid_marker_is_possible()
+    ensures { SomeMarkerIsBesideIn }
+{}
+
+/// Proves that a cycle keeps the same names whether its snapshot has the registers, or all mutators are scanned at the mark.
+pub fn scans_at_once_are_roots()
+    ensures { ScansAtOnceAreRoots }
+{}
+
+/// Proves that there is a finished marker beside each cycle with later roots. So `a_hybrid_marker_is_exact` isn't an empty
+/// claim.
+pub fn a_finished_hybrid_marker_is_possible()
+    ensures { SomeMarkerFinishesIn }
 {}

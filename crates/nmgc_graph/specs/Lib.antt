@@ -1,3 +1,4 @@
+pub mod Bare
 pub mod Closing
 pub mod Marks
 pub mod Search

@@ -1,3 +1,4 @@
+pub mod Bare
 pub mod Common
 pub mod Rows
 mod Vocabulary

@@ -1,7 +1,9 @@
 //! The parts of a world, for reading, and a copy of it.
-ghost use Rattle.std.specs.Prelude.{◌≡◌, ◌<◌, length, IfOk};
+ghost use Rattle.std.specs.Prelude.{◌≡◌, ◌<◌, length, map, IfOk};
+ghost use Rattle.nmgc_graph.specs.Bare.{cleared, without_registers};
 
 use crate::World;
+use crate::world::copies;
 use nmgc_lists::{List, NoMemory, Queue};
 use nmgc_world_spec::{MutatorState, Node, Value};
 use std::alloc::Global;
@@ -52,6 +54,19 @@ impl World {
     {
         let shared = copy_node(self.alloc, &self.shared)?;
         let mutators = copy_states(self.alloc, self.mutators.items())?;
+        Ok(World {
+            alloc: self.alloc,
+            shared,
+            mutators,
+        })
+    }
+
+    /// Returns a copy of the world with nil in each register, in memory of its own.
+    pub fn copy_without_registers(&self) -> Result<World, NoMemory>
+        ensures { IfOk result (λ world. world ≡ without_registers self.now) }
+    {
+        let shared = copy_node(self.alloc, &self.shared)?;
+        let mutators = cleared_states(self.alloc, self.mutators.items())?;
         Ok(World {
             alloc: self.alloc,
             shared,
@@ -127,6 +142,31 @@ fn copy_states(alloc: Global, states: &[MutatorState]) -> Result<List<MutatorSta
     let mut copies = List::new(alloc);
     for state in states {
         copies.push(copy_state(alloc, state)?)?;
+    }
+    Ok(copies)
+}
+
+// Returns a copy of a mutator's state with nil in each register.
+fn cleared_state(alloc: Global, state: &MutatorState) -> Result<MutatorState, NoMemory>
+    ensures { IfOk result (λ copy. copy ≡ cleared state.now) }
+{
+    let registers = copies(alloc, Value::Nil, state.registers.items().len())?;
+    let queue = copy_queue(alloc, state.queue.items())?;
+    let nodes = copy_nodes(alloc, state.nodes.items())?;
+    Ok(MutatorState {
+        registers,
+        queue,
+        nodes,
+    })
+}
+
+// Returns copies of states with nil in each register, in the same order.
+fn cleared_states(alloc: Global, states: &[MutatorState]) -> Result<List<MutatorState>, NoMemory>
+    ensures { IfOk result (λ copies. copies ≡ map cleared states.now) }
+{
+    let mut copies = List::new(alloc);
+    for state in states {
+        copies.push(cleared_state(alloc, state)?)?;
     }
     Ok(copies)
 }

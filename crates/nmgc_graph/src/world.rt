@@ -632,8 +632,8 @@ fn change_nth(state: &mut MutatorState, name: Name, change: Change) -> Result<Re
     )
 }
 
-// Returns a list of `count` copies of a value.
-fn copies(alloc: Global, value: Value, count: usize) -> Result<List<Value>, NoMemory>
+/// Returns a list of `count` copies of a value.
+pub(crate) fn copies(alloc: Global, value: Value, count: usize) -> Result<List<Value>, NoMemory>
     ensures { IfOk result (λ values. values ≡ replicate count value) }
 {
     List::from_vec(vec![in alloc; value; count]?)

@@ -57,18 +57,16 @@ pub record Base (s : State) : Type 0 where
   pub alive : (weak : Name) (parts : Parts) → IsAlive s.snapshot weak parts → (Contains s.finalised weak → ⊥) → IsAlive s.world weak parts
   pub owed : (m : ℕ) → All (MayHold s) (names_of s.owed m)
   pub pushed : (m : ℕ) → All (MayHold s) (names_of s.pushed m)
-  pub others : (name : Name) → IsSome (node_of s.snapshot name) → (IsLiveIn s name → ⊥) → node_of s.world name ≡ node_of s.snapshot name
   pub later : (name : Name) (before : Node) → node_of s.snapshot name ≡ Some before → StillThere s.world name before
   pub live : (name : Name) → Contains s.marked name → IsLiveIn s name
   pub queued : (entry : Entry) → Contains s.queue entry → Contains s.marked entry.name
   pub passed : (entry : Entry) → Contains s.queue entry → IsPassed s entry
 
 -- the facts, from the opening to the closing. Registers, queues, owed and pushed lists, strong fields of live or new objects,
--- and parts of new weak pointers contain only live or new names (`holds`, `owed`, `pushed`, `fields`, `weaks`). A name that
--- isn't live keeps its node (`others`). A weak pointer that is alive and wasn't finalised keeps its parts (`alive`). Each
--- strong field of the snapshot is looked after (`kept`). Marked names are live, queued names are marked, and roots are marked
--- (`live`, `queued`, `roots`). Opened names, and each finalised weak pointer with all that it kept, are marked, owed or
--- pushed (`opened`, `ended`, `finalised`).
+-- and parts of new weak pointers contain only live or new names (`holds`, `owed`, `pushed`, `fields`, `weaks`). A weak
+-- pointer that is alive and wasn't finalised keeps its parts (`alive`). Each strong field of the snapshot is looked after
+-- (`kept`). Marked names are live, queued names are marked, and roots are marked (`live`, `queued`, `roots`). Opened names,
+-- and each finalised weak pointer with all that it kept, are marked, owed or pushed (`opened`, `ended`, `finalised`).
 pub record Facts (s : State) : Type 0 where
   pub base : Base s
   pub roots : (name : Name) → IsRoot s.snapshot name → Contains s.marked name

@@ -10,7 +10,7 @@ use Rattle.nmgc_journal.specs.{Text.name_text, Text.reply_text, Reading.◌>>=�
 use Rattle.nmgc_lists.specs.laws.Truths.{chosen}
 use Rattle.nmgc_barrier_checker.specs.declared.event.Event.{Event}
 use Rattle.nmgc_barrier_checker.specs.declared.event.Event.TheVariants as event
-use Rattle.nmgc_trace_checker.specs.{declared.meaning.Meaning.Meaning, Reading.byte_at, Reading.names_at, Reading.pusher_at, Reading.mutators_at, Reading.mark_at, Reading.push_at, Reading.settle_at, Reading.take_at, Reading.close_at, Reading.marked_at, Reading.freed_at, Reading.stop_at, Reading.ending_at, Reading.plain_at, Reading.parts_at, Reading.rows_if, Reading.IsCommandOf, Reading.IsMeaningOfRows, Reading.IsMeaningOfRow, Reading.IsMeaningBy, Said.IsMutators, Said.IsReply, Said.given_words, Said.IsGiven, Said.copy_words, Said.fill_words, Said.IsPusher, Said.names_words, Said.AreNames, Said.SaysEvent, Said.Says}
+use Rattle.nmgc_trace_checker.specs.{declared.meaning.Meaning.Meaning, Reading.byte_at, Reading.names_at, Reading.pusher_at, Reading.mutators_at, Reading.mark_at, Reading.shared_mark_at, Reading.scan_at, Reading.push_at, Reading.settle_at, Reading.take_at, Reading.close_at, Reading.marked_at, Reading.freed_at, Reading.stop_at, Reading.ending_at, Reading.plain_at, Reading.parts_at, Reading.rows_if, Reading.IsCommandOf, Reading.IsMeaningOfRows, Reading.IsMeaningOfRow, Reading.IsMeaningBy, Said.IsMutators, Said.IsReply, Said.given_words, Said.IsGiven, Said.copy_words, Said.fill_words, Said.IsPusher, Said.names_words, Said.AreNames, Said.SaysEvent, Said.Says}
 use Rattle.nmgc_trace_checker.specs.declared.meaning.Meaning.TheVariants as meaning
 use Rattle.nmgc_trace_checker.proofs.{LineWords.words_are, LineWords.front_words, WordReads.Given, WordReads.AreRows, WordReads.is_word, WordReads.byte_takes, WordReads.byte_again, WordReads.names_read, WordReads.names_reread, WordReads.pusher_takes, WordReads.pusher_again, WordReads.parts_takes, WordReads.parts_again, WordReads.rows_if_takes, WordReads.rows_if_again}
 
@@ -45,10 +45,27 @@ mutators_takes (w ∷ []) t e =
     subst (SaysBy (codes "mutators" ∷ w ∷ [])) (same_Some (meaning.Mutators b.0) t b.2) (n.1, ap (λ (x : List ℕ). codes "mutators" ∷ x ∷ []) n.0)
 mutators_takes _ t e = absurd cc
 
+shared_mark_takes : (word : List ℕ) (t : Meaning) → shared_mark_at word ≡ Some t → SaysBy (codes "mark" ∷ word ∷ []) t
+unfolding shared_mark_at
+shared_mark_takes word t e =
+    let g = guard_some (bytes_eq word (codes "g")) (Some (meaning.Event event.MarkShared)) t e in
+    subst (SaysBy (codes "mark" ∷ word ∷ [])) (same_Some (meaning.Event event.MarkShared) t g.1)
+    (ap (λ (x : List ℕ). codes "mark" ∷ x ∷ []) (is_word word (codes "g") g.0))
+
 mark_takes : (words : List (List ℕ)) (t : Meaning) → mark_at words ≡ Some t → SaysBy (codes "mark" ∷ words) t
 unfolding mark_at
 mark_takes [] t e = subst (SaysBy (codes "mark" ∷ [])) (same_Some (meaning.Event event.Mark) t e) refl
-mark_takes (w ∷ ws) t e = absurd cc
+mark_takes (w ∷ []) t e = shared_mark_takes w t e
+mark_takes (w ∷ v ∷ ws) t e = absurd cc
+
+scan_takes : (words : List (List ℕ)) (t : Meaning) → scan_at words ≡ Some t → SaysBy (codes "scan" ∷ words) t
+unfolding scan_at
+scan_takes [] t e = absurd cc
+scan_takes (w ∷ v ∷ ws) t e = absurd cc
+scan_takes (w ∷ []) t e =
+    let b = bind_some (byte_at w) (λ m. Some (meaning.Event (event.Scan m))) t e in
+    let n = byte_takes w b.0 b.1 in
+    subst (SaysBy (codes "scan" ∷ w ∷ [])) (same_Some (meaning.Event (event.Scan b.0)) t b.2) (n.1, ap (λ (x : List ℕ). codes "scan" ∷ x ∷ []) n.0)
 
 push_takes : (words : List (List ℕ)) (t : Meaning) → push_at words ≡ Some t → SaysBy (codes "push" ∷ words) t
 unfolding push_at
@@ -139,7 +156,10 @@ plain_takes (word ∷ words) t e = elim (chosen (bytes_eq word (codes "mutators"
         | inl s ↦ at_word word (codes "settle") words t s.0 (settle_takes words t s.1)
         | inr s ↦ elim (chosen (bytes_eq word (codes "take")) (take_at words) _ (Some t) s.1) [
           | inl u ↦ at_word word (codes "take") words t u.0 (take_takes words t u.1)
-          | inr u ↦ ending_takes word words t u.1
+          | inr u ↦ elim (chosen (bytes_eq word (codes "scan")) (scan_at words) _ (Some t) u.1) [
+            | inl v ↦ at_word word (codes "scan") words t v.0 (scan_takes words t v.1)
+            | inr v ↦ ending_takes word words t v.1
+          ]
         ]
       ]
     ]
@@ -158,6 +178,14 @@ at_words words other t e h = subst (λ (ws : List (List ℕ)). plain_at ws ≡ S
 mark_again : plain_at (codes "mark" ∷ []) ≡ Some (meaning.Event event.Mark)
 unfolding plain_at mark_at
 mark_again = refl
+
+shared_mark_again : plain_at (codes "mark" ∷ codes "g" ∷ []) ≡ Some (meaning.Event event.MarkShared)
+unfolding plain_at mark_at shared_mark_at
+shared_mark_again = refl
+
+scan_again : (m : ℕ) → m < 256 → plain_at (codes "scan" ∷ decimal m ∷ []) ≡ Some (meaning.Event (event.Scan m))
+unfolding plain_at scan_at
+scan_again m lt = rw (byte_again m lt) refl
 
 push_again : (who : List ℕ) (name : Name) → IsPusher who → IsName name →
     plain_at (codes "push" ∷ who ∷ name_text name ∷ []) ≡ Some (meaning.Event (event.Push name))
@@ -216,6 +244,10 @@ module _ (words : List (List ℕ)) (none : plain_at words ≡ None) (given : (m 
   no_event (event.Rows m commands) (inr h) = rows m (fill_words h.filling) commands h.mutator h.words_are
       (inr (h.filling, h.valid, refl, h.commands_are))
   no_event event.Mark h = never (meaning.Event event.Mark) (at_words words (codes "mark" ∷ []) (meaning.Event event.Mark) h mark_again)
+  no_event event.MarkShared h = never (meaning.Event event.MarkShared) (at_words words (codes "mark" ∷ codes "g" ∷
+      []) (meaning.Event event.MarkShared) h shared_mark_again)
+  no_event (event.Scan m) h = never (meaning.Event (event.Scan m)) (at_words words (codes "scan" ∷ decimal m ∷
+      []) (meaning.Event (event.Scan m)) h.1 (scan_again m h.0))
   no_event (event.Push name) h = never (meaning.Event (event.Push name)) (at_words words (codes "push" ∷ h.0 ∷ name_text name ∷
       []) (meaning.Event (event.Push name)) h.3 (push_again h.0 name h.1 h.2))
   no_event (event.Settle m) h = never (meaning.Event (event.Settle m)) (at_words words (codes "settle" ∷ decimal m ∷

@@ -1,5 +1,5 @@
 -- Every name of std, of the crates below and of this crate's definitions that the proofs speak of.
-pub use Rattle.nmgc_barrier_laws.specs.{Barrier.Watches, Cycle.Cycle, Cycle.IsWatched, Cycle.MarksName, Cycle.watching, laws.Beside.barrier_theorem, laws.Beside.joint_theorem, laws.Finishing.some_finisher}
+pub use Rattle.nmgc_barrier_laws.specs.{Barrier.Watches, Cycle.Cycle, Cycle.MarksName, Cycle.watching, Hybrid.AreScanned, Hybrid.Hybrid, Hybrid.IsWatchedIn, Hybrid.WatchesIn, Hybrid.beginning, Hybrid.is_scanned, Hybrid.scanned_at_once, laws.Beside.barrier_theorem, laws.Beside.joint_theorem, laws.Finishing.some_finisher, laws.HybridBeside.hybrid_joint, laws.HybridFinishing.some_finisher_in, laws.HybridSafe.hybrid_safety}
 pub use Rattle.nmgc_journal.specs.{Reading.number_at, Reading.value_at, Reading.◌>>=◌, Text.IsValue, Text.name_text, Text.reply_text, Text.value_text, laws.Reading.Reads, laws.Reading.bind_some, laws.Reading.guard_some, laws.Reading.name_reads, laws.Reading.number_again, laws.Reading.number_takes, laws.Reading.value_reads}
 pub use Rattle.nmgc_trace_checker.specs.{Kept.IsKeptListed, Kept.ListsKept, Kept.rows_in, Notes.HasTried, Notes.IsNoted, Notes.IsSinceIn, Outcomes.AreLinesOf, Outcomes.AreMarkedLines, Outcomes.IsFault, Outcomes.IsFaultAfter, Outcomes.IsHeardUpTo, Outcomes.IsMarked, Outcomes.IsMarkedOf, Outcomes.IsOutcome, Outcomes.IsSince, Outcomes.IsTextAt, Outcomes.IsTooLong, Outcomes.IsWatchedBy, Outcomes.happened_of, Outcomes.head_texts, Outcomes.is_passed_of, Outcomes.is_refused, Outcomes.is_refused_there, Outcomes.no_counts, Outcomes.ok_to, Outcomes.oks, Outcomes.with_line, Outcomes.with_lines, Program.AreAnswered, Program.IsAnswerTo, Program.IsGravest, Program.IsResult, Program.Judged, Program.SaysAll, Program.is_live, Program.label_of, Program.rank, Program.status_of, Reading.IsCommandOf, Reading.IsLastIf, Reading.IsLastOf, Reading.IsLineBy, Reading.IsLineCommand, Reading.IsLineGiven, Reading.IsMeaningBy, Reading.IsMeaningOfRow, Reading.IsMeaningOfRows, Reading.IsSpelled, Reading.IsSpelledIf, Reading.answered_at, Reading.byte_at, Reading.copying_of, Reading.onto_command, Reading.or_else, Reading.rows_if, Reading.script_head, Reading.short_at, Reports.Comes, Reports.EndsAtLine, Reports.Happens, Reports.IsHappening, Reports.IsRefusal, Reports.IsReport, Reports.report_of, Said.AreNames, Said.AreSaid, Said.IsCopying, Said.IsFilling, Said.IsGiven, Said.IsMutators, Said.IsNextLine, Said.IsPusher, Said.IsReply, Said.IsTakeOf, Said.Says, Said.SaysCore, Said.SaysEvent, Said.SaysLine, Said.ahead, Said.copy_words, Said.fill_words, Said.given_words, Said.names_words, Said.texts_of, Sentences.after_space, Sentences.outcome_text, Shown.IsPassedOn, Shown.IsShownAs, Shown.Writes, Shown.WritesLive, Shown.WritesOne, Trace.Can, Trace.IsAnswered, Trace.IsAnsweredIf, Trace.IsDrain, Trace.IsNext, Trace.IsTakeIf, Trace.MarksJust, Trace.Scans, Trace.next_if, Verdicts.IsVerdict, Verdicts.IsVerdictAfter, Verdicts.refusal_of, Whole.Closes, Whole.IsWholeReport}
 pub use Rattle.nmgc_trace_checker.specs.declared.{line.Line.Line, progress.Progress.Progress, reading.TraceFault.TraceFault, report.Begun.Begun, report.Refusal.Refusal, report.Report.Report, checker.Answer.Answer, checker.DueLine.DueLine, checker.TraceChecker.TraceChecker, counts.Counts.Counts, meaning.Meaning.Meaning, reading.Outcome.Outcome, status.Status.Status, verdict.Verdict.Verdict}
@@ -19,7 +19,7 @@ pub use Rattle.std.proofs.Common.{Bool, Bor, Err, Global, IfOk, List, MatchResul
 pub use Rattle.std.proofs.lemmas.{Bool.and_from, Bool.and_parts, Bool.cases_Bool, Bool.cond-false, Bool.cond-true, Bool.eq-eqb, Bool.eqb-true, Bool.false≢true, Bool.leb-true, Bool.lt-ltb, Bool.ltb-true, Bool.ne_eqb, Bool.Decides.eqb_tells, Fmt.decimal_by_steps, Fmt.decimal_nonempty, Fmt.length-decimal-le, List.append-nil, List.drop_all, List.drop_at, List.flat_map_more, List.get_or_push, List.length-append, List.length-map, List.length-take-le, List.length_push, List.map-append, List.map_more, List.map_push, List.nil_from_length, List.same_from_push, List.take-append-drop, List.take-append-le, List.take_all, List.take_more, List.Elements.All-cons, List.Elements.All-contains, List.Elements.All-from_recursion, List.Elements.All-nil, List.Elements.Contains-append_cases, List.Elements.Contains-append_left, List.Elements.Contains-append_right, List.Elements.Contains-get_or, List.Elements.Contains-push, List.Elements.Contains-push_cases, List.Elements.recursion_from_All, Option.none-some, Option.same_Some, Result.IfOk-weaker, Result.err_from_is_err_and, Result.on_err_weaker, Result.on_ok_weaker, Slice.Eq.bytes_eq-Decides, Str.Pattern.strip_suffix_char}
 pub use Rattle.std.specs.{Io.KnownBytes.Appends, List.flat_map, Option.option_map, Prelude.OnErr, Prelude.OnOk, Io.BufRead.DropsThrough, Io.BufRead.drop_through, Io.BufRead.ends_with_byte, Io.BufRead.strip_last, Io.BufRead.take_through, List.AllByRecursion, Prelude.All, Prelude.Contains, Prelude.IfErr, Prelude.IfSome, Prelude.IsErrAnd, Prelude.IsTrue, Prelude.MatchOption, Prelude.if◌then◌else◌, Prelude.slice_set, Prelude.unwrap_or, Prelude.◌&&◌, Str.bytes_eq, Str.Pattern.FindsCharSuffix}
 unfoldable pub use Rattle.nmgc_journal.specs.Reading.{dotted_at, name_at}
-unfoldable pub use Rattle.nmgc_trace_checker.specs.Reading.{close_at, close_line_at, copy_at, copying_at, count_line_at, done_at, drain_line_at, each_at, ending_at, fill_at, filling_at, freed_at, mark_at, mark_line_at, marked_at, marker_line_at, mutators_at, names_at, no_names_at, nothing_at, operand_at, parts_at, place_at, plain_at, plain_line_at, push_at, push_line_at, pusher_at, refused_at, register_at, reply_at, rows_at, scan_line_at, settle_at, span_at, stop_at, take_at, take_line_at}
+unfoldable pub use Rattle.nmgc_trace_checker.specs.Reading.{close_at, close_line_at, copy_at, copying_at, count_line_at, done_at, drain_line_at, each_at, ending_at, fill_at, filling_at, freed_at, mark_at, mark_line_at, marked_at, marker_line_at, mutators_at, names_at, no_names_at, nothing_at, operand_at, parts_at, place_at, plain_at, plain_line_at, push_at, push_line_at, pusher_at, refused_at, register_at, reply_at, rows_at, scan_at, scan_line_at, settle_at, shared_mark_at, span_at, stop_at, take_at, take_line_at}
 unfoldable pub use Rattle.nmgc_script.specs.Text.{kept_from}
 unfoldable pub use Rattle.std.specs.Fmt.{digits}
 unfoldable pub use lib.Count.{ones}

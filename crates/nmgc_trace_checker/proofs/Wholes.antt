@@ -1,7 +1,9 @@
 -- A whole trace has a cycle that ends in it, and each such cycle is exact.
-use Rattle.nmgc_trace_checker.proofs.{Vocabulary.◌≡◌, Vocabulary.◌⊎◌, Vocabulary.◌+◌, Vocabulary.◌++◌, Vocabulary.ℕ, Vocabulary.refl, Vocabulary.sym, Vocabulary.ap, Vocabulary.subst, Vocabulary.arith, Vocabulary.inl, Vocabulary.inr, Vocabulary.List, Vocabulary.[], Vocabulary.◌∷◌, Vocabulary.length, Vocabulary.append_assoc, Vocabulary.length-append, Vocabulary.Command, Vocabulary.World, Vocabulary.Lists, Vocabulary.Cycle, Vocabulary.MarksName, Vocabulary.barrier_theorem, Vocabulary.joint_theorem, Vocabulary.some_finisher, Vocabulary.CycleResult, Vocabulary.Watch, Vocabulary.CanAct, Vocabulary.AreDone, Vocabulary.Meaning, Vocabulary.Begun, Vocabulary.Report, Vocabulary.Comes, Vocabulary.Happens, Vocabulary.report_of, Vocabulary.Closes, Vocabulary.IsWholeReport, Markers.Stood, Markers.stood_at, Checkings.comes_push}
+use Rattle.nmgc_trace_checker.proofs.{Vocabulary.◌≡◌, Vocabulary.◌⊎◌, Vocabulary.◌+◌, Vocabulary.◌++◌, Vocabulary.ℕ, Vocabulary.refl, Vocabulary.sym, Vocabulary.ap, Vocabulary.subst, Vocabulary.arith, Vocabulary.inl, Vocabulary.inr, Vocabulary.List, Vocabulary.[], Vocabulary.◌∷◌, Vocabulary.length, Vocabulary.append_assoc, Vocabulary.length-append, Vocabulary.Command, Vocabulary.World, Vocabulary.Lists, Vocabulary.MarksName, Vocabulary.Hybrid, Vocabulary.AreScanned, Vocabulary.barrier_theorem, Vocabulary.joint_theorem, Vocabulary.some_finisher, Vocabulary.hybrid_joint, Vocabulary.some_finisher_in, Vocabulary.hybrid_safety, Vocabulary.CycleResult, Vocabulary.Watch, Vocabulary.CanAct, Vocabulary.AreDone, Vocabulary.Meaning, Vocabulary.Begun, Vocabulary.Report, Vocabulary.Comes, Vocabulary.Happens, Vocabulary.report_of, Vocabulary.Closes, Vocabulary.IsWholeReport, Markers.AtOnce, Markers.Stood, Markers.stood_at, Checkings.comes_push}
 use Rattle.nmgc_barrier_checker.specs.{declared.event.Event.Event, Watching.Can}
-use Rattle.nmgc_trace_checker.specs.Whole.{IsExact}
+use Rattle.nmgc_trace_checker.specs.Whole.{IsExact, IsExactAtOnce, IsExactLater}
+use Rattle.nmgc_barrier_laws.specs.Hybrid.{WatchesIn}
+use Rattle.nmgc_world_spec.specs.{Known.IsWorld, Reach.IsKept}
 use Rattle.nmgc_barrier_checker.specs.declared.event.Event.TheVariants as event
 use Rattle.nmgc_barrier_checker.specs.declared.watch.Watch.TheVariants as watch
 use Rattle.nmgc_trace_checker.specs.declared.meaning.Meaning.TheVariants as meaning
@@ -13,10 +15,10 @@ abbrev left_in : CycleResult → Watch → CycleResult
 left_in d (watch.Ended left) = left
 left_in d _ = d
 
-not_marking : (left : CycleResult) (h : Cycle) → watch.Ended left ≡ watch.Marking h → ⊥
+not_marking : (left : CycleResult) (h : Hybrid) → watch.Ended left ≡ watch.Marking h → ⊥
 not_marking left h e = cc
 
-stopped_marking : (h : Cycle) → watch.Stopped ≡ watch.Marking h → ⊥
+stopped_marking : (h : Hybrid) → watch.Stopped ≡ watch.Marking h → ⊥
 stopped_marking h e = cc
 
 stopped_ended : (left : CycleResult) → watch.Stopped ≡ watch.Ended left → ⊥
@@ -27,7 +29,7 @@ abbrev IsMarking : Watch → Type 0
 IsMarking (watch.Marking h) = Unit {0}
 IsMarking _ = ⊥
 
-act_marking : (n m : ℕ) (c : Command) (h : Cycle) (after : Watch) → CanAct n m c (watch.Marking h) after → IsMarking after
+act_marking : (n m : ℕ) (c : Command) (h : Hybrid) (after : Watch) → CanAct n m c (watch.Marking h) after → IsMarking after
 act_marking n m c h after can = subst IsMarking (sym can.3) tt
 
 rows_stay : (n m : ℕ) (cs : List Command) (q after : Watch) → AreDone n m cs q after → IsMarking q → IsMarking after
@@ -35,47 +37,81 @@ rows_stay n m [] q after h is = subst IsMarking (sym h) is
 rows_stay n m (c ∷ cs) (watch.Marking k) after h is = rows_stay n m cs h.0 after h.2 (act_marking n m c k h.0 h.1)
 rows_stay n m (c ∷ cs) _ after h is = absurd is
 
-rows_marking : (n m : ℕ) (cs : List Command) (h : Cycle) (after : Watch) → AreDone n m cs (watch.Marking h) after → IsMarking after
+rows_marking : (n m : ℕ) (cs : List Command) (h : Hybrid) (after : Watch) → AreDone n m cs (watch.Marking h) after → IsMarking after
 rows_marking n m cs h after done = rows_stay n m cs (watch.Marking h) after done tt
 
 -- only a close ends a cycle, and its result lists the names that the pushes and the commands keep
-kept_by : (n : ℕ) (h : Cycle) (e : Event) (left : CycleResult) → Can n (watch.Marking h) e (watch.Ended left) → Lists (MarksName h) left.kept
+kept_by : (n : ℕ) (h : Hybrid) (e : Event) (left : CycleResult) → Can n (watch.Marking h) e (watch.Ended left) → Lists (MarksName h.watch) left.kept
 kept_by n h (event.Given m c answer) left can = absurd (not_marking left can.0 can.2)
 kept_by n h (event.Rows m commands) left can = absurd (rows_marking n m commands h (watch.Ended left) can.1)
-kept_by n h (event.Push name) left can = absurd (not_marking left can.0 can.2)
+kept_by n h (event.Scan m) left can = absurd (not_marking left can.0 can.2)
+kept_by n h (event.Push name) left can = absurd (not_marking left (record h { watch = can.0 }) can.2)
 kept_by n h (event.Settle m) left can = absurd (not_marking left h can.1)
-kept_by n h (event.Take name) left can = absurd (not_marking left can.0 can.2)
-kept_by n h event.Close left can = subst (λ (l : CycleResult). Lists (MarksName h) l.kept) (sym (ap (left_in left) can.2)) can.1.kept
-kept_by n h (event.CloseWith dead) left can = subst (λ (l : CycleResult). Lists (MarksName h) l.kept) (sym (ap (left_in left) can.2)) can.1.kept
+kept_by n h (event.Take name) left can = absurd (not_marking left (record h { watch = can.0 }) can.2)
+kept_by n h event.Close left can = subst (λ (l : CycleResult). Lists (MarksName h.watch) l.kept) (sym (ap (left_in left) can.2)) can.1.kept
+kept_by n h (event.CloseWith dead) left can = subst (λ (l : CycleResult). Lists (MarksName h.watch) l.kept) (sym (ap (left_in left) can.2)) can.1.kept
 kept_by n h _ left can = absurd can
 
 -- no name is due when a close ends a cycle
-paid_by : (n : ℕ) (h : Cycle) (e : Event) (left : CycleResult) → Can n (watch.Marking h) e (watch.Ended left) → h.debts ≡ []
+paid_by : (n : ℕ) (h : Hybrid) (e : Event) (left : CycleResult) → Can n (watch.Marking h) e (watch.Ended left) → h.watch.debts ≡ []
 paid_by n h (event.Given m c answer) left can = absurd (not_marking left can.0 can.2)
 paid_by n h (event.Rows m commands) left can = absurd (rows_marking n m commands h (watch.Ended left) can.1)
-paid_by n h (event.Push name) left can = absurd (not_marking left can.0 can.2)
+paid_by n h (event.Scan m) left can = absurd (not_marking left can.0 can.2)
+paid_by n h (event.Push name) left can = absurd (not_marking left (record h { watch = can.0 }) can.2)
 paid_by n h (event.Settle m) left can = absurd (not_marking left h can.1)
-paid_by n h (event.Take name) left can = absurd (not_marking left can.0 can.2)
+paid_by n h (event.Take name) left can = absurd (not_marking left (record h { watch = can.0 }) can.2)
 paid_by n h event.Close left can = can.1.ends.debts
 paid_by n h (event.CloseWith dead) left can = can.1.ends.debts
 paid_by n h _ left can = absurd can
 
-exact : (lines : List Meaning) (h : Cycle) (left : CycleResult) → Closes lines h left → IsExact h left
+-- and all mutators are scanned
+scanned_by : (n : ℕ) (h : Hybrid) (e : Event) (left : CycleResult) → Can n (watch.Marking h) e (watch.Ended left) → AreScanned h
+scanned_by n h (event.Given m c answer) left can = absurd (not_marking left can.0 can.2)
+scanned_by n h (event.Rows m commands) left can = absurd (rows_marking n m commands h (watch.Ended left) can.1)
+scanned_by n h (event.Scan m) left can = absurd (not_marking left can.0 can.2)
+scanned_by n h (event.Push name) left can = absurd (not_marking left (record h { watch = can.0 }) can.2)
+scanned_by n h (event.Settle m) left can = absurd (not_marking left h can.1)
+scanned_by n h (event.Take name) left can = absurd (not_marking left (record h { watch = can.0 }) can.2)
+scanned_by n h event.Close left can = can.3
+scanned_by n h (event.CloseWith dead) left can = can.3
+scanned_by n h _ left can = absurd can
+
+module _ (h : Hybrid) (left : CycleResult) (w : World) (is : IsWorld w) (paid : h.watch.debts ≡ []) (kept : Lists (MarksName h.watch) left.kept) where
+  at_once : AtOnce w h → IsExactAtOnce h.watch left
+  at_once a = record {
+    begins = w;
+    is_world = is;
+    watches = a.watches;
+    marker = some_finisher w is h.watch a.watches;
+    ends = λ s b done. joint_theorem w is h.watch a.watches paid s b done;
+    marks = λ s next b possible closing name. (
+      λ m. kept.complete name (((barrier_theorem w is h.watch s b).marks next possible closing name).0 m),
+      λ k. ((barrier_theorem w is h.watch s b).marks next possible closing name).1 (kept.sound name k),
+    );
+  }
+
+  later : WatchesIn w h → AreScanned h → IsExactLater h left
+  later watches scanned = record {
+    begins = w;
+    is_world = is;
+    watches = watches;
+    marker = some_finisher_in w is h watches;
+    ends = λ s b done. hybrid_joint w is h watches paid s b done;
+    marks = λ s next b possible closing name.
+        let e = (hybrid_joint w is h watches paid s b (record { queue = possible.1; pushed = possible.3 })).marks next closing name in
+        (λ m. kept.complete name (e.0 m), λ k. e.1 (kept.sound name k));
+    keeps = λ name live there. kept.complete name (IsKept.live name (hybrid_safety w is h watches scanned paid name live there));
+  }
+
+exact : (lines : List Meaning) (h : Hybrid) (left : CycleResult) → Closes lines h left → IsExact h left
 exact lines h left c =
     let t : Stood h = stood_at c.earlier h c.comes in
-    let paid : h.debts ≡ [] = paid_by (length c.earlier + 1) h c.close left c.ends in
-    let kept : Lists (MarksName h) left.kept = kept_by (length c.earlier + 1) h c.close left c.ends in
-    record {
-      begins = t.begins;
-      is_world = t.is;
-      watches = t.watches;
-      marker = some_finisher t.begins t.is h t.watches;
-      ends = λ s b done. joint_theorem t.begins t.is h t.watches paid s b done;
-      marks = λ s next b possible closing name. (
-        λ m. kept.complete name (((barrier_theorem t.begins t.is h s b).marks next possible closing name).0 m),
-        λ k. ((barrier_theorem t.begins t.is h s b).marks next possible closing name).1 (kept.sound name k),
-      );
-    }
+    let paid : h.watch.debts ≡ [] = paid_by (length c.earlier + 1) h c.close left c.ends in
+    let kept : Lists (MarksName h.watch) left.kept = kept_by (length c.earlier + 1) h c.close left c.ends in
+    elim t.watches [
+      | inl a ↦ inl (at_once h left t.begins t.is paid kept a)
+      | inr b ↦ inr (later h left t.begins t.is paid kept b (scanned_by (length c.earlier + 1) h c.close left c.ends))
+    ]
 
 -- A CYCLE THAT ENDS
 
@@ -86,7 +122,7 @@ IsOver _ = ⊥
 
 -- the line of this number ends a cycle
 record Ends (n : ℕ) (p : Begun) (t : Meaning) : Type 0 where
-  cycle : Cycle
+  cycle : Hybrid
   left : CycleResult
   close : Event
   before : p ≡ begun.Watching (watch.Marking cycle)
@@ -105,15 +141,17 @@ not_over : (n : ℕ) (w : World) (e : Event) (after : Watch) → Can n (watch.Be
 not_over n w (event.Given m c answer) after can over = subst (λ (q : Watch). IsOver (begun.Watching q)) can.2 over
 not_over n w (event.Rows m commands) after can over = rows_between n m commands w after can.1 over
 not_over n w event.Mark after can over = subst (λ (q : Watch). IsOver (begun.Watching q)) can over
+not_over n w event.MarkShared after can over = subst (λ (q : Watch). IsOver (begun.Watching q)) can over
 not_over n w _ after can over = can
 
 -- one event never leads from a cycle to the stop
-not_stopped : (n : ℕ) (h : Cycle) (e : Event) → Can n (watch.Marking h) e watch.Stopped → ⊥
+not_stopped : (n : ℕ) (h : Hybrid) (e : Event) → Can n (watch.Marking h) e watch.Stopped → ⊥
 not_stopped n h (event.Given m c answer) can = stopped_marking can.0 can.2
 not_stopped n h (event.Rows m commands) can = rows_marking n m commands h watch.Stopped can.1
-not_stopped n h (event.Push name) can = stopped_marking can.0 can.2
+not_stopped n h (event.Scan m) can = stopped_marking can.0 can.2
+not_stopped n h (event.Push name) can = stopped_marking (record h { watch = can.0 }) can.2
 not_stopped n h (event.Settle m) can = stopped_marking h can.1
-not_stopped n h (event.Take name) can = stopped_marking can.0 can.2
+not_stopped n h (event.Take name) can = stopped_marking (record h { watch = can.0 }) can.2
 not_stopped n h event.Close can = stopped_ended can.0 can.2
 not_stopped n h (event.CloseWith dead) can = stopped_ended can.0 can.2
 not_stopped n h _ can = can
@@ -135,7 +173,7 @@ ends_at n (begun.Watching q) (meaning.Event e) next h over = over_by n q e h.0 h
 ends_at n p meaning.Unknown next h over = absurd h
 
 abbrev HasCycle : List Meaning → Type 0
-HasCycle lines = (h : Cycle) × (left : CycleResult) × Closes lines h left
+HasCycle lines = (h : Hybrid) × (left : CycleResult) × Closes lines h left
 
 closing : (earlier later : List Meaning) (n : ℕ) (p : Begun) (t : Meaning) → n ≡ length earlier + 1 → Comes 1 begun.Nothing earlier p → Ends n p t →
     HasCycle (earlier ++ t ∷ later)

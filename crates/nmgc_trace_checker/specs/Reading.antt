@@ -233,8 +233,13 @@ unfoldable pub mutators_at : List (List ℕ) → Option Meaning
 mutators_at (count ∷ []) = byte_at count >>= λ n. Some (meaning.Mutators n)
 mutators_at words = None
 
+-- the meaning of `mark` and this token: marking begins with the shared array as a root
+unfoldable pub shared_mark_at : List ℕ → Option Meaning
+shared_mark_at word = if bytes_eq word (codes "g") then Some (meaning.Event event.MarkShared) else None
+
 unfoldable pub mark_at : List (List ℕ) → Option Meaning
 mark_at [] = Some (meaning.Event event.Mark)
+mark_at (shared ∷ []) = shared_mark_at shared
 mark_at words = None
 
 unfoldable pub push_at : List (List ℕ) → Option Meaning
@@ -247,6 +252,10 @@ push_at words = None
 unfoldable pub settle_at : List (List ℕ) → Option Meaning
 settle_at (mutator ∷ []) = byte_at mutator >>= λ m. Some (meaning.Event (event.Settle m))
 settle_at words = None
+
+unfoldable pub scan_at : List (List ℕ) → Option Meaning
+scan_at (mutator ∷ []) = byte_at mutator >>= λ m. Some (meaning.Event (event.Scan m))
+scan_at words = None
 
 unfoldable pub take_at : List (List ℕ) → Option Meaning
 take_at (name ∷ []) = name_at name >>= λ n. Some (meaning.Event (event.Take n))
@@ -284,6 +293,7 @@ plain_at (word ∷ words) =
     else if bytes_eq word (codes "push") then push_at words
     else if bytes_eq word (codes "settle") then settle_at words
     else if bytes_eq word (codes "take") then take_at words
+    else if bytes_eq word (codes "scan") then scan_at words
     else ending_at word words
 
 -- THE MEANING OF A LINE OF FORMAT 2

@@ -120,6 +120,8 @@ abbrev pub SaysEvent : List (List ℕ) → Event → Type 0
 SaysEvent words (event.Given m c answer) = IsGiven words m c answer
 SaysEvent words (event.Rows m commands) = IsCopied words m commands ⊎ IsFilled words m commands
 SaysEvent words event.Mark = words ≡ codes "mark" ∷ []
+SaysEvent words event.MarkShared = words ≡ codes "mark" ∷ codes "g" ∷ []
+SaysEvent words (event.Scan m) = (m < 256) × (words ≡ codes "scan" ∷ decimal m ∷ [])
 SaysEvent words (event.Push name) = (who : List ℕ) × IsPusher who × IsName name × (words ≡ codes "push" ∷ who ∷ name_text name ∷ [])
 SaysEvent words (event.Settle m) = (m < 256) × (words ≡ codes "settle" ∷ decimal m ∷ [])
 SaysEvent words (event.Take name) = IsName name × (words ≡ codes "take" ∷ name_text name ∷ [])

@@ -23,6 +23,10 @@ bracketed (Some text) = codes " (" ++ text ++ codes ")"
 abbrev pub named_text : List ℕ → Name → List ℕ → List ℕ
 named_text before name after = codes "can't happen: " ++ before ++ name_text name ++ after
 
+-- the reason that a mutator's registers weren't read in the cycle
+abbrev pub unscanned_text : ℕ → List ℕ
+unscanned_text mutator = codes "can't happen: mutator " ++ decimal mutator ++ codes " wasn't scanned"
+
 -- the reason that a name is due and wasn't pushed: the name, the line since which it is due, and that line's text if it is known
 abbrev pub debt_text : Debt → Option (List ℕ) → List ℕ
 debt_text debt since = codes "can't happen: " ++ name_text debt.name ++ codes " is due since line " ++ decimal debt.line ++ bracketed since ++
@@ -37,6 +41,7 @@ why_text (why.Due debt) since = debt_text debt since
 why_text (why.NoSuchName name) since = named_text (codes "the heap has no ") name []
 why_text (why.NotMarked name) since = named_text [] name (codes " isn't kept, or was made since the cycle began")
 why_text (why.Untaken name) since = named_text (codes "nobody took ") name []
+why_text (why.Unscanned mutator) since = unscanned_text mutator
 why_text (why.NotPushed name) since = named_text [] name (codes " wasn't pushed, or was made since the cycle began")
 why_text (why.NotOld name) since = named_text [] name (codes " was made since the cycle began")
 why_text (why.NotDead name) since = named_text [] name (codes " isn't dead")

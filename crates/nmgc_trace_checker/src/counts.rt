@@ -41,6 +41,8 @@ impl Counts {
             Event::Push { .. } => self.pushes = self.pushes.saturating_add(1),
             Event::Close | Event::CloseWith { .. } => self.cycles = self.cycles.saturating_add(1),
             Event::Mark
+            | Event::MarkShared
+            | Event::Scan { .. }
             | Event::Settle { .. }
             | Event::Take { .. }
             | Event::Marked { .. }

@@ -1,7 +1,8 @@
 //! The meaning of a line of format 2. Commands, answers and names are spelled as in format 1 (`line`). A push has the pushed
-//! name. There is no marker: no line scans or drains, and a take only reports a name that the runtime's own marker took.
+//! name. There is no marker: no line scans an object or drains. A take only reports a name that the runtime's own marker took,
+//! and `scan` only that a mutator's registers are read.
 ghost use Rattle.std.specs.Prelude.{◌≡◌, map, IfOk};
-ghost use Rattle.nmgc_trace_checker.specs.Reading.{short_at, place_at, span_at, copying_of, copy_at, copying_at, fill_at, filling_at, rows_at, rows_if, mutators_at, mark_at, push_at, settle_at, take_at, close_at, marked_at, freed_at, stop_at, ending_at, plain_at, parts_at, IsMeaningBy, IsMeaningOfRow};
+ghost use Rattle.nmgc_trace_checker.specs.Reading.{shared_mark_at, scan_at, short_at, place_at, span_at, copying_of, copy_at, copying_at, fill_at, filling_at, rows_at, rows_if, mutators_at, mark_at, push_at, settle_at, take_at, close_at, marked_at, freed_at, stop_at, ending_at, plain_at, parts_at, IsMeaningBy, IsMeaningOfRow};
 ghost use Rattle.nmgc_trace_checker.specs.Said.{Says};
 
 use crate::commands::{command, parts};
@@ -75,6 +76,9 @@ fn keyword_meaning(alloc: Global, words: &[&[u8]]) -> Result<Option<Meaning>, No
     if *word == b"take".as_slice() {
         return Ok(take_meaning(rest));
     }
+    if *word == b"scan".as_slice() {
+        return Ok(scan_meaning(rest));
+    }
     ending_meaning(alloc, word, rest)
 }
 
@@ -109,15 +113,41 @@ fn mutators_meaning(words: &[&[u8]]) -> Option<Meaning>
     Some(Meaning::Mutators(byte(count)?))
 }
 
-// Returns the event `Mark` if no token follows `mark`, and otherwise `None`.
+// Returns the event `Mark` if no token follows `mark`, `MarkShared` if one token follows and is `g`, and otherwise `None`.
 #[tactic(auto, unfolding(crate::specs::Reading::mark_at))]
 fn mark_meaning(words: &[&[u8]]) -> Option<Meaning>
     ensures { result ≡ mark_at (map (λ w. w.now) words.now) }
 {
+    if let [shared] = words {
+        return shared_mark_meaning(shared);
+    }
     let [] = words else {
         return None;
     };
     Some(Meaning::Event(Event::Mark))
+}
+
+// Returns the event `MarkShared` if the token after `mark` is `g`, and otherwise `None`.
+#[tactic(auto, unfolding(crate::specs::Reading::shared_mark_at))]
+fn shared_mark_meaning(word: &[u8]) -> Option<Meaning>
+    ensures { result ≡ shared_mark_at word.now }
+{
+    if word == b"g".as_slice() {
+        return Some(Meaning::Event(Event::MarkShared));
+    }
+    None
+}
+
+// Returns the scan of the mutator whose number the one token after `scan` spells, or `None` for any other tokens.
+#[tactic(auto, unfolding(crate::specs::Reading::scan_at))]
+fn scan_meaning(words: &[&[u8]]) -> Option<Meaning>
+    ensures { result ≡ scan_at (map (λ w. w.now) words.now) }
+{
+    let [mutator] = words else {
+        return None;
+    };
+    let mutator = byte(mutator)?;
+    Some(Meaning::Event(Event::Scan { mutator }))
 }
 
 // Returns the push that the tokens `WHO NAME` after `push` spell, or `None`. Only the name is in the event, not the pusher.

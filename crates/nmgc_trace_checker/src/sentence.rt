@@ -5,7 +5,7 @@
 ghost use Rattle.std.specs.Prelude.{◌≡◌, ◌++◌, string_bytes, OnOk};
 ghost use Rattle.std.specs.Option.{option_map};
 ghost use Rattle.nmgc_journal.specs.Text.{reply_text};
-ghost use Rattle.nmgc_trace_checker.specs.Sentences.{bracketed, named_text, debt_text, why_text, refusal_text};
+ghost use Rattle.nmgc_trace_checker.specs.Sentences.{bracketed, named_text, unscanned_text, debt_text, why_text, refusal_text};
 
 use crate::report::Refusal;
 use nmgc_barrier_checker::Why;
@@ -58,6 +58,7 @@ fn push_why(out: &mut Vec<u8>, why: Why, since: &Option<String>) -> Result<(), N
             b" isn't kept, or was made since the cycle began",
         ),
         Why::Untaken(name) => push_named(out, b"nobody took ", name, b""),
+        Why::Unscanned(mutator) => push_unscanned(out, mutator),
         Why::NotPushed(name) => push_named(
             out,
             b"",
@@ -105,6 +106,15 @@ fn push_named(out: &mut Vec<u8>, before: &[u8], name: Name, after: &[u8]) -> Res
     push_text(out, before)?;
     push_name(out, name)?;
     push_text(out, after)
+}
+
+// Appends that a mutator wasn't scanned.
+fn push_unscanned(out: &mut Vec<u8>, mutator: u8) -> Result<(), NoMemory>
+    ensures { OnOk result (out.new.items ≡ out.old.items ++ unscanned_text mutator) }
+{
+    push_text(out, b"can't happen: mutator ")?;
+    push_number(out, mutator as u64)?;
+    push_text(out, b" wasn't scanned")
 }
 
 // Appends an answer as a trace spells it.

@@ -52,7 +52,6 @@ module _ (s : State) (f : Facts s) (added : Name) (there : IsSome (node_of s.sna
     alive = f.base.alive;
     owed = λ k. more_names (names_of s.owed k) (f.base.owed k);
     pushed = λ k. more_names (names_of s.pushed k) (f.base.pushed k);
-    others = λ name t dead. f.base.others name t (λ l. dead (live_more s.snapshot s.opened (added ∷ []) name l));
     later = f.base.later;
     live = λ name k. live_more s.snapshot s.opened (added ∷ []) name (f.base.live name k);
     queued = f.base.queued;

@@ -36,6 +36,9 @@ TOLD = [
     (HEAD + "0 nil r0 = nil\n", "line 3 can't happen: the heap answers ok"),
     (HEAD + "0 con r0 256 = 0.0\n", "line 3 is none of a trace"),
     (HEAD + "0 thread 1 = ok\n", "line 3 is none of a trace"),
+    (HEAD + "mark g\nclose\n", "line 4 can't happen: mutator 0 wasn't scanned"),
+    (HEAD + "0 con r0 0 = 0.0\nmark g\n0 set g 0 r0 = ok\nscan 0\nclose\n",
+     "line 7 can't happen: 0.0 is due since line 5 (0 set g 0 r0 = ok), and nobody remembered it"),
     (HEAD + "mark\npush 0 0.5\n", "line 4 can't happen: the heap has no 0.5"),
     (HEAD + "mark\nsettle 1\n", "line 4 can't happen: there is no such mutator or register"),
     (HEAD + "mark\ntake g\n", "line 4 can't happen: g wasn't pushed, or was made since the cycle began"),
@@ -165,7 +168,7 @@ class Worlds(unittest.TestCase):
                 self.assertNotIn("<script", svg)
                 self.assertEqual([words for words in too_wide(svg) if "script" not in words], [])
                 self.assertTrue(ids_are_right(svg))
-        self.assertEqual(sorts, {"due", "answer", "name", "take", "untaken", "told", "needed", "new", "marked", "dead", "other", "push", "scan", "queue"})
+        self.assertEqual(sorts, {"due", "answer", "name", "take", "untaken", "unscanned", "told", "needed", "new", "marked", "dead", "other", "push", "scan", "queue"})
 
     def test_the_number_of_a_line_has_one_form(self):
         text = content("examples", "traces", "insertion_barrier.trace").replace("close", "#\n" * 10012 + "close")

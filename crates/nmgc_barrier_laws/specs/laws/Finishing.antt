@@ -46,10 +46,10 @@ shared_had : (w : World) (k : ℕ) → Contains (names_of_makers w k) shared_nam
 shared_had w zero = contains_one shared_name
 shared_had w (suc k) = Contains-append_right (names_below k (serial_of w k)) (names_of_makers w k) shared_name (shared_had w k)
 
-abbrev all_names : World → List Name
+abbrev pub all_names : World → List Name
 all_names w = names_of_makers w (length w.mutators)
 
-all_have : (w : World) (n : Name) → IsSome (node_of w n) → Contains (all_names w) n
+pub all_have : (w : World) (n : Name) → IsSome (node_of w n) → Contains (all_names w) n
 all_have w n there = elim (eqb_tells n.maker SHARED_MAKER) [
   | inl p ↦ elim (eqb_tells n.serial 0) [
     | inl z ↦ subst (λ (k : ℕ). Contains (all_names w) (named n.maker k)) (sym z.1) (subst (λ (k : ℕ).
@@ -161,7 +161,7 @@ reads s (Some (value.Ref name)) = mark_cases (Reads s) s name (λ e. fresh name 
 
 module _ (all : List Name) where
   -- the number of unmarked names of the snapshot
-  abbrev new_count : State → ℕ
+  abbrev pub new_count : State → ℕ
   new_count s = length (filter (is_new s) all)
 
   abbrev Steps : State → State → Type 0
@@ -196,25 +196,26 @@ empty_lists [] each = All-nil (λ (names : List Name). names ≡ [])
 empty_lists (l ∷ ls) each = All-cons (λ (names : List Name). names ≡ []) l ls (each zero) (empty_lists ls (λ m. each (suc m)))
 
 -- a marker that has taken all pushed names
-record IsReady (w : World) (h : Cycle) (all : List Name) (s : State) : Type 0 where
-  beside : Beside w h s
-  empty : (m : ℕ) → names_of s.pushed m ≡ []
-  within : (n : Name) → IsSome (node_of s.snapshot n) → Contains all n
+pub record IsReady (P : State → Type 0) (all : List Name) (s : State) : Type 0 where
+  pub beside : P s
+  pub empty : (m : ℕ) → names_of s.pushed m ≡ []
+  pub within : (n : Name) → IsSome (node_of s.snapshot n) → Contains all n
 
-module _ (w : World) (h : Cycle) (all : List Name) where
-  abbrev Finishes : Type 0
-  Finishes = (s : State) × Beside w h s × HasFinished s
+-- a marker whose states have the property P, which a scan keeps
+module _ (P : State → Type 0) (goes_on : (s : State) → P s → P (after_scan s s.queue)) (all : List Name) where
+  abbrev pub Finishes : Type 0
+  Finishes = (s : State) × P s × HasFinished s
 
-  scanned : (s : State) → IsReady w h all s → IsReady w h all (after_scan s s.queue)
+  scanned : (s : State) → IsReady P all s → IsReady P all (after_scan s s.queue)
   scanned s r =
       let k : MarksOn s (after_scan s s.queue) = marks_scan s s.queue in
       record {
-        beside = barrier.scan h s r.beside;
+        beside = goes_on s r.beside;
         empty = λ m. subst (λ (l : List (List Name)). names_of l m ≡ []) (sym k.pushed) (r.empty m);
         within = λ n there. r.within n (subst (λ (v : World). IsSome (node_of v n)) k.snapshot there);
       }
 
-  turn : (s : State) → IsReady w h all s → ((t : State) → IsReady w h all t → t.world ≡ s.world → Steps all s t → Finishes) → Finishes
+  turn : (s : State) → IsReady P all s → ((t : State) → IsReady P all t → t.world ≡ s.world → Steps all s t → Finishes) → Finishes
   turn s r go = by_queue s.queue refl
     where
       by_queue : (queue : List Entry) → s.queue ≡ queue → Finishes
@@ -223,7 +224,7 @@ module _ (w : World) (h : Cycle) (all : List Name) where
           let k : MarksOn s (after_scan s s.queue) = marks_scan s s.queue in
           go (after_scan s s.queue) (scanned s r) k.world (scan_step all s entry rest e r.within)
 
-  run : (k : ℕ) → ((t : State) → IsReady w h all t → new_count all t < k → Finishes) → (c : ℕ) (s : State) → IsReady w h all s → new_count all s ≤ k →
+  run : (k : ℕ) → ((t : State) → IsReady P all t → new_count all t < k → Finishes) → (c : ℕ) (s : State) → IsReady P all s → new_count all s ≤ k →
       costs s.world s.queue ≤ c → Finishes
   run k again zero s r few low = turn s r (λ t rt same step. elim step [
     | inl less ↦ again t rt (omega arith)
@@ -238,7 +239,7 @@ module _ (w : World) (h : Cycle) (all : List Name) where
         run k again c t rt (omega arith) (subst (λ (v : World). costs v t.queue ≤ c) (sym same) lower)
   ])
 
-  finishes : (k : ℕ) (s : State) → IsReady w h all s → new_count all s ≤ k → Finishes
+  pub finishes : (k : ℕ) (s : State) → IsReady P all s → new_count all s ≤ k → Finishes
   finishes zero s r few = run zero (λ t rt lt. absurd (let l : new_count all t < 0 = lt in omega arith)) (costs s.world s.queue) s r few (omega arith)
   finishes (suc k) s r few = run (suc k) (λ t rt lt. finishes k t rt (omega arith)) (costs s.world s.queue) s r few (omega arith)
 
@@ -333,4 +334,4 @@ pub some_finisher : SomeMarkerFinishes
 some_finisher w is h watches =
     let p : (s : State) × Beside w h s × ((j : ℕ) → names_of s.pushed j ≡ []) = some_ready w is h watches in
     let all : List Name = all_names p.0.snapshot in
-    finishes w h all (new_count all p.0) p.0 (record { beside = p.1; empty = p.2; within = all_have p.0.snapshot }) (omega arith)
+    finishes (Beside w h) (λ t b. barrier.scan h t b) all (new_count all p.0) p.0 (record { beside = p.1; empty = p.2; within = all_have p.0.snapshot }) (omega arith)

@@ -58,7 +58,6 @@ module _ (s : State) (f : Facts s) (m : ℕ) (place : m < length s.pushed) (name
         []) place (All-append (MayHold floated) (names_of s.pushed m) (name ∷
         []) (more_names (names_of s.pushed m) (f.base.pushed m)) (All-cons (MayHold floated) name [] own_may (All-nil (MayHold floated)))) (λ k.
         more_names (names_of s.pushed k) (f.base.pushed k));
-    others = λ n there dead. f.base.others n there (λ l. dead (live_more s.snapshot s.opened (name ∷ []) n l));
     later = f.base.later;
     live = λ n c. live_more s.snapshot s.opened (name ∷ []) n (f.base.live n c);
     queued = f.base.queued;

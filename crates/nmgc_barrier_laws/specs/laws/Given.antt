@@ -1,7 +1,7 @@
 -- A command that owes at least the names that are due, and at most names that may be held, keeps the facts.
 use Rattle.std.proofs.{Common.◌≡◌, Common.◌<◌, Common.◌≤◌, Common.ℕ, Common.List, Common.◌++◌, Common.length, Common.refl, Common.sym, Common.subst, Common.◌∙◌, Common.arith, Common.length-set, Common.Option, Common.Some, Common.None, Common.inl, Common.inr, Common.◌⊎◌, Common.ap, lemmas.List.Elements.All-append, lemmas.List.Elements.Contains-append_left, lemmas.List.Elements.Contains-append_cases, lemmas.Bool.cases_eq}
 use Rattle.std.specs.Prelude.{IsSome, All, Contains}
-use Rattle.nmgc_world_spec.specs.{declared.value.Name.Name, declared.value.Value.Value, declared.node.Parts.Parts, declared.node.Node.Node, declared.node.Node.TheVariants.Weak, declared.command.Command.Command, World.World, World.node_of, World.serial_of, Known.IsWorld, Step.shared_name, Step.step, Reach.IsAlive, Reach.IsKeptBy, Reach.field, History.opened_by, History.finalised_by, laws.Orders.name_cases, Owed.values_owed, Owed.owed_by}
+use Rattle.nmgc_world_spec.specs.{declared.value.Name.Name, declared.value.Value.Value, declared.node.Parts.Parts, declared.node.Node.Node, declared.node.Node.TheVariants.Weak, declared.command.Command.Command, World.World, World.node_of, World.serial_of, Known.IsWorld, Step.shared_name, Step.step, Reach.IsAlive, Reach.IsKeptBy, History.opened_by, History.finalised_by, laws.Orders.name_cases, Owed.values_owed, Owed.owed_by}
 use Rattle.nmgc_world_spec.specs.declared.value.Value.TheVariants as value
 use Rattle.nmgc_world_laws.specs.{Holds.StillThere, Holds.HasStrongField, Holds.strong_at, laws.Moves.RespectsBarrier, laws.WeakMoves.opened_owed, laws.WeakMoves.Ends, laws.WeakMoves.finalised_owed}
 use Rattle.nmgc_snapshot_laws.specs.{Facts.MayHold, Facts.IsSafe, Facts.IsAhead, Facts.Kept, Facts.Base, Facts.Facts, Facts.owed, Facts.pushed, Facts.queued, Facts.marked, Facts.unmarked, State.State, State.names_of, laws.Lives.live_more, laws.Lives.target_there, laws.Lives.part_there, laws.Lives.refers, laws.Listed.each_names, laws.Listed.names_same, laws.Listed.names_other, laws.Listed.names_among_have, laws.Listed.name_among, Machine.after_command}
@@ -9,7 +9,7 @@ use Rattle.nmgc_barrier_laws.specs.{Due.IsBroken, Due.IsEnded, Due.IsDue, Lax.af
 use Rattle.nmgc_snapshot_laws.specs.laws.Commands as command
 
 -- a field is there or not
-stands_or : (w : World) (name : Name) (i : ℕ) (target : Name) → HasStrongField w name i (value.Ref target) ⊎ (HasStrongField w name i (value.Ref target) → ⊥)
+pub stands_or : (w : World) (name : Name) (i : ℕ) (target : Name) → HasStrongField w name i (value.Ref target) ⊎ (HasStrongField w name i (value.Ref target) → ⊥)
 stands_or w name i target = by_node (node_of w name) refl
   where
     not_here : (node : Node) → node_of w name ≡ Some node → (strong_at node i ≡ Some (value.Ref target) → ⊥) → HasStrongField w name i (value.Ref target) → ⊥
@@ -83,10 +83,6 @@ module _ (s : State) (f : Facts s) (w : IsWorld s.world) (m : ℕ) (c : Command)
           (All-append (MayHold after) (names_of s.owed m) names (command.more_names s f w m c lt (names_of s.owed m) (f.base.owed m)) given) (λ k.
           command.more_names s f w m c lt (names_of s.owed k) (f.base.owed k));
       pushed = λ k. command.more_names s f w m c lt (names_of s.pushed k) (f.base.pushed k);
-      others = λ name there dead.
-          let old : node_of s.world name ≡ node_of s.snapshot name =
-          f.base.others name there (λ l. dead (live_more s.snapshot s.opened (opened_by s.world m c) name l)) in
-          moves.others name (λ may. dead (may there)) (subst (λ o. IsSome o) (sym old) there) ∙ old;
       later = λ name before e.
           let t : StillThere s.world name before = f.base.later name before e in
           let r : StillThere (step s.world m c).0 name t.node = moves.later name t.node t.node_is in

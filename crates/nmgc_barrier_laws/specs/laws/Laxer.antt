@@ -1,5 +1,5 @@
 -- Lax steps keep the facts.
-use Rattle.nmgc_barrier_laws.specs.laws.Vocabulary.{ℕ, subst, inl, inr, IsSome, Name, node_of, State, target_there, part_there, refers, IsSafe, IsAhead, Kept, Base, Facts, owed, pushed, queued, IsShuffled}
+use Rattle.nmgc_barrier_laws.specs.laws.Vocabulary.{ℕ, subst, inl, inr, IsSome, Name, node_of, State, target_there, part_there, refers, IsSafe, IsAhead, Kept, Base, Facts, queued, IsShuffled}
 use Rattle.nmgc_snapshot_laws.specs.Facts.{unmarked}
 
 -- waiting names in another order: the same state except for the three lists
@@ -25,7 +25,6 @@ module _ (s : State) (f : Facts s) (next : State) (h : IsShuffled s next) where
     alive = f.base.alive;
     owed = h.owed;
     pushed = h.pushed;
-    others = f.base.others;
     later = f.base.later;
     live = f.base.live;
     queued = λ entry c. f.base.queued entry ((h.queue entry).0 c);

@@ -119,7 +119,7 @@ pub record MarksOn (s u : State) : Type 0 where
   pub pushed : u.pushed ≡ s.pushed
   pub marked : (n : Name) → Contains s.marked n → Contains u.marked n
 
-marks_same : (s : State) → MarksOn s s
+pub marks_same : (s : State) → MarksOn s s
 marks_same s = record { world = refl; snapshot = refl; opened = refl; finalised = refl; is_closed = refl; owed = refl; pushed = refl; marked = λ n c. c }
 
 pub marks_name : (s : State) (name : Name) → MarksOn s (mark_name s name)

@@ -124,10 +124,6 @@ module _ (s : State) (f : Facts s) (w : IsWorld s.world) (m : ℕ) (c : Command)
         (All-append (MayHold next) (names_of s.owed m) (owed_by s.world m c) (more_names (names_of s.owed m) (f.base.owed m))
         (names_among_have (MayHold next) (values_owed s.world m c) moves.owes)) (λ k. more_names (names_of s.owed k) (f.base.owed k));
     pushed = λ k. more_names (names_of s.pushed k) (f.base.pushed k);
-    others = λ name there dead.
-        let old : node_of s.world name ≡ node_of s.snapshot name =
-        f.base.others name there (λ l. dead (live_more s.snapshot s.opened (opened_by s.world m c) name l)) in
-        moves.others name (λ may. dead (may there)) (subst (λ o. IsSome o) (sym old) there) ∙ old;
     later = λ name before e.
         let t : StillThere s.world name before = f.base.later name before e in
         let r : StillThere (step s.world m c).0 name t.node = moves.later name t.node t.node_is in

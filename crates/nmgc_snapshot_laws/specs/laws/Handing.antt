@@ -43,7 +43,6 @@ module _ (s : State) (f : Facts s) (m : ℕ) (name : Name) (rest : List Name) (f
         (cond_both (is_some (node_of s.snapshot name) && not (is_same_name name shared_name)) (name ∷ []) [] (All (MayHold s)) (λ e.
         All-cons (MayHold s) name [] (All-head (MayHold s) name rest may) (All-nil (MayHold s))) (λ e. All-nil (MayHold s))))
         f.base.pushed;
-    others = f.base.others;
     later = f.base.later;
     live = f.base.live;
     queued = f.base.queued;
@@ -125,7 +124,6 @@ module _ (s : State) (f : Facts s) (m : ℕ) (name : Name) (rest : List Name) (f
     owed = f.base.owed;
     pushed = each_names (All (MayHold s)) s.pushed m rest place (All-tail (MayHold s) name rest (subst (All (MayHold s)) first (f.base.pushed m)))
         f.base.pushed;
-    others = f.base.others;
     later = f.base.later;
     live = f.base.live;
     queued = f.base.queued;

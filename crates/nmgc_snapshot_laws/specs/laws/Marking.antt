@@ -56,7 +56,6 @@ mark_base s name b may = mark_cases Base s name (λ e. record {
   alive = b.alive;
   owed = b.owed;
   pushed = b.pushed;
-  others = b.others;
   later = b.later;
   live = λ n h. elim (Contains-push_cases s.marked name n h) [
     | inl old ↦ b.live n old

@@ -37,7 +37,6 @@ module _ (w : World) (h : IsWorld w) where
     alive = λ weak parts a not. a;
     owed = λ m. rw (no_names (length w.mutators) m) (All-nil (MayHold start));
     pushed = λ m. rw (no_names (length w.mutators) m) (All-nil (MayHold start));
-    others = λ name there dead. refl;
     later = λ name before e. record { node = before; node_is = e; later = same_later before };
     live = λ name c. subst (IsLiveIn start) (one_is shared_name name c) (root shared_name (inl refl));
     queued = λ entry c. absurd (nothing_in entry c);

@@ -167,7 +167,6 @@ module _ (s : State) (f : Facts s) (w : IsWorld s.world) (entry : Entry) (rest :
     alive = f.base.alive;
     owed = f.base.owed;
     pushed = f.base.pushed;
-    others = f.base.others;
     later = f.base.later;
     live = f.base.live;
     queued = λ e h. elim (Contains-append_cases (moved_on (Some node) entry) rest e h) [

@@ -27,14 +27,47 @@ invariant_of-self-in_err-lost c =
     p.0) (sym c.in_ok-apply.ensures.step)) c.in_ok-apply.ensures.closed c.in_ok-apply.ensures.grows.mutators (c.in_ok-extend-2.ensures.ok ∙
     rw (c.as_slice-3.ensures.value, c.in_ok-ends.ensures) refl)
 
-pub invariant_of-self-in_err-names : goal.invariant_of-self-in_err-names
-invariant_of-self-in_err-names c =
+pub invariant_of-self-in_err-handed : goal.invariant_of-self-in_err-handed
+invariant_of-self-in_err-handed c =
     cycle_stepped c.self.inside.world c.self.inside.snapshot c.self.inside.remembered c.self.inside.accounts c.extend.new.self c.self.inside.taken
     c.self.inside.finalised (with_opened c.self.inside.world c.self.inside.snapshot c.self.inside.remembered c.self.inside.accounts
     c.self.inside.opened c.self.inside.taken c.self.inside.finalised c.self.invariant c.extend.new.self c.extend.ensures.listed) c.args.mutator
     c.args.command.now c.apply.new.self c.extend-2.new.self (rw (← c.self.view_is) at c.requires).mutator (ap (λ (p : World × Reply).
     p.0) (sym c.in_ok-apply.ensures.step)) c.in_ok-apply.ensures.closed c.in_ok-apply.ensures.grows.mutators (c.in_ok-extend-2.ensures.ok ∙
     rw (c.as_slice-3.ensures.value, c.in_ok-ends.ensures) refl)
+
+pub invariant_of-self-in_err-extend-3 : goal.invariant_of-self-in_err-extend-3
+invariant_of-self-in_err-extend-3 c =
+    with_opened c.apply.new.self c.self.inside.snapshot c.self.inside.remembered c.self.inside.accounts c.extend.new.self
+    c.self.inside.taken c.extend-2.new.self (cycle_stepped c.self.inside.world c.self.inside.snapshot c.self.inside.remembered c.self.inside.accounts c.extend.new.self
+    c.self.inside.taken c.self.inside.finalised (with_opened c.self.inside.world c.self.inside.snapshot c.self.inside.remembered
+    c.self.inside.accounts c.self.inside.opened c.self.inside.taken c.self.inside.finalised c.self.invariant c.extend.new.self
+    c.extend.ensures.listed) c.args.mutator c.args.command.now c.apply.new.self c.extend-2.new.self (rw (← c.self.view_is) at c.requires).mutator
+    (ap (λ (p : World × Reply).
+    p.0) (sym c.in_ok-apply.ensures.step)) c.in_ok-apply.ensures.closed c.in_ok-apply.ensures.grows.mutators (c.in_ok-extend-2.ensures.ok ∙
+    rw (c.as_slice-3.ensures.value, c.in_ok-ends.ensures) refl)) c.extend-3.new.self c.extend-3.ensures.listed
+
+pub invariant_of-self-in_err-names : goal.invariant_of-self-in_err-names
+invariant_of-self-in_err-names c =
+    with_opened c.apply.new.self c.self.inside.snapshot c.self.inside.remembered c.self.inside.accounts c.extend.new.self
+    c.self.inside.taken c.extend-2.new.self (cycle_stepped c.self.inside.world c.self.inside.snapshot c.self.inside.remembered c.self.inside.accounts c.extend.new.self
+    c.self.inside.taken c.self.inside.finalised (with_opened c.self.inside.world c.self.inside.snapshot c.self.inside.remembered
+    c.self.inside.accounts c.self.inside.opened c.self.inside.taken c.self.inside.finalised c.self.invariant c.extend.new.self
+    c.extend.ensures.listed) c.args.mutator c.args.command.now c.apply.new.self c.extend-2.new.self (rw (← c.self.view_is) at c.requires).mutator
+    (ap (λ (p : World × Reply).
+    p.0) (sym c.in_ok-apply.ensures.step)) c.in_ok-apply.ensures.closed c.in_ok-apply.ensures.grows.mutators (c.in_ok-extend-2.ensures.ok ∙
+    rw (c.as_slice-3.ensures.value, c.in_ok-ends.ensures) refl)) c.extend-3.new.self c.extend-3.ensures.listed
+
+pub invariant_of-self-in_err-extend_from_slice : goal.invariant_of-self-in_err-extend_from_slice
+invariant_of-self-in_err-extend_from_slice c =
+    with_opened c.apply.new.self c.self.inside.snapshot c.self.inside.remembered c.self.inside.accounts c.extend.new.self
+    c.self.inside.taken c.extend-2.new.self (cycle_stepped c.self.inside.world c.self.inside.snapshot c.self.inside.remembered c.self.inside.accounts c.extend.new.self
+    c.self.inside.taken c.self.inside.finalised (with_opened c.self.inside.world c.self.inside.snapshot c.self.inside.remembered
+    c.self.inside.accounts c.self.inside.opened c.self.inside.taken c.self.inside.finalised c.self.invariant c.extend.new.self
+    c.extend.ensures.listed) c.args.mutator c.args.command.now c.apply.new.self c.extend-2.new.self (rw (← c.self.view_is) at c.requires).mutator
+    (ap (λ (p : World × Reply).
+    p.0) (sym c.in_ok-apply.ensures.step)) c.in_ok-apply.ensures.closed c.in_ok-apply.ensures.grows.mutators (c.in_ok-extend-2.ensures.ok ∙
+    rw (c.as_slice-3.ensures.value, c.in_ok-ends.ensures) refl)) c.extend-3.new.self c.extend-3.ensures.listed
 
 pub owe-requires-clause-are : goal.owe-requires-clause-are
 owe-requires-clause-are c = c.self.invariant.accounts
@@ -44,45 +77,56 @@ owe-requires-clause-mutator c = subst (λ (n : ℕ). c.args.mutator < n) (sym c.
 
 pub invariant_of-self-in_err-owe : goal.invariant_of-self-in_err-owe
 invariant_of-self-in_err-owe c =
-    with_accounts c.apply.new.self c.self.inside.snapshot c.self.inside.remembered c.self.inside.accounts c.extend.new.self c.self.inside.taken
-    c.extend-2.new.self (cycle_stepped c.self.inside.world c.self.inside.snapshot c.self.inside.remembered c.self.inside.accounts c.extend.new.self
+    with_accounts c.apply.new.self c.self.inside.snapshot c.self.inside.remembered c.self.inside.accounts c.extend-3.new.self c.self.inside.taken
+    c.extend-2.new.self (with_opened c.apply.new.self c.self.inside.snapshot c.self.inside.remembered c.self.inside.accounts c.extend.new.self
+    c.self.inside.taken c.extend-2.new.self (cycle_stepped c.self.inside.world c.self.inside.snapshot c.self.inside.remembered c.self.inside.accounts c.extend.new.self
     c.self.inside.taken c.self.inside.finalised (with_opened c.self.inside.world c.self.inside.snapshot c.self.inside.remembered
     c.self.inside.accounts c.self.inside.opened c.self.inside.taken c.self.inside.finalised c.self.invariant c.extend.new.self
     c.extend.ensures.listed) c.args.mutator c.args.command.now c.apply.new.self c.extend-2.new.self (rw (← c.self.view_is) at c.requires).mutator
     (ap (λ (p : World × Reply).
     p.0) (sym c.in_ok-apply.ensures.step)) c.in_ok-apply.ensures.closed c.in_ok-apply.ensures.grows.mutators (c.in_ok-extend-2.ensures.ok ∙
-    rw (c.as_slice-3.ensures.value, c.in_ok-ends.ensures) refl)) c.owe.new.self c.owe.ensures.are c.owe.ensures.count
+    rw (c.as_slice-3.ensures.value, c.in_ok-ends.ensures) refl)) c.extend-3.new.self c.extend-3.ensures.listed) c.owe.new.self c.owe.ensures.are c.owe.ensures.count
 
 pub invariant_of-self-2 : goal.invariant_of-self-2
 invariant_of-self-2 c =
-    with_accounts c.apply.new.self c.self.inside.snapshot c.self.inside.remembered c.self.inside.accounts c.extend.new.self c.self.inside.taken
-    c.extend-2.new.self (cycle_stepped c.self.inside.world c.self.inside.snapshot c.self.inside.remembered c.self.inside.accounts c.extend.new.self
+    with_accounts c.apply.new.self c.self.inside.snapshot c.self.inside.remembered c.self.inside.accounts c.extend-3.new.self c.self.inside.taken
+    c.extend-2.new.self (with_opened c.apply.new.self c.self.inside.snapshot c.self.inside.remembered c.self.inside.accounts c.extend.new.self
+    c.self.inside.taken c.extend-2.new.self (cycle_stepped c.self.inside.world c.self.inside.snapshot c.self.inside.remembered c.self.inside.accounts c.extend.new.self
     c.self.inside.taken c.self.inside.finalised (with_opened c.self.inside.world c.self.inside.snapshot c.self.inside.remembered
     c.self.inside.accounts c.self.inside.opened c.self.inside.taken c.self.inside.finalised c.self.invariant c.extend.new.self
     c.extend.ensures.listed) c.args.mutator c.args.command.now c.apply.new.self c.extend-2.new.self (rw (← c.self.view_is) at c.requires).mutator
     (ap (λ (p : World × Reply).
     p.0) (sym c.in_ok-apply.ensures.step)) c.in_ok-apply.ensures.closed c.in_ok-apply.ensures.grows.mutators (c.in_ok-extend-2.ensures.ok ∙
-    rw (c.as_slice-3.ensures.value, c.in_ok-ends.ensures) refl)) c.owe.new.self c.owe.ensures.are c.owe.ensures.count
+    rw (c.as_slice-3.ensures.value, c.in_ok-ends.ensures) refl)) c.extend-3.new.self c.extend-3.ensures.listed) c.owe.new.self c.owe.ensures.are c.owe.ensures.count
 
 pub returns : goal.returns
 returns c =
     rw (← c.self.view_is)
     (taken_then c.self.inside.world c.self.inside.snapshot c.self.inside.remembered c.self.inside.accounts c.self.inside.opened c.self.inside.taken
-    c.self.inside.finalised c.self.invariant c.args.line c.args.mutator c.args.command.now (rw (← c.self.view_is) at c.requires)
-    c.in_ok-fields.fields c.in_ok-fields.ensures c.apply.new.self c.owe.new.self c.extend.new.self c.extend-2.new.self c.as_slice-7.result.now
+    c.self.inside.finalised c.self.invariant c.args.scans.now c.args.line c.args.mutator c.args.command.now (rw (← c.self.view_is) at c.requires)
+    c.in_ok-fields.fields c.coming_field-coming.result c.in_ok-fields.ensures c.coming_field-coming.ensures c.apply.new.self c.owe.new.self c.extend.new.self
+    c.extend-3.new.self c.extend-2.new.self c.as_slice-9.result.now
     (ap (λ (p : World × Reply). p.0) (sym c.in_ok-apply.ensures.step))
     (subst (λ (l : List Name). Joins c.self.inside.snapshot c.self.inside.opened.names l c.extend.new.self.names) (c.as_slice-2.ensures.value ∙
     c.in_ok-opens.ensures) c.in_ok-extend.ensures.joins)
+    (subst (λ (l : List Name). Joins c.self.inside.snapshot c.extend.new.self.names l c.extend-3.new.self.names) (c.as_slice-4.ensures.value ∙ (c.in_ok-handed.ensures ∙
+    rw (c.is_set-seen.ensures, c.next_name-made.ensures, ap (λ (p : World × Reply). p.0) (sym c.in_ok-apply.ensures.step)) refl))
+    c.in_ok-extend-3.ensures.joins)
     (c.in_ok-extend-2.ensures.ok ∙ rw (c.as_slice-3.ensures.value, c.in_ok-ends.ensures) refl)
     (rw (
-      c.as_slice-7.ensures.value,
+      c.as_slice-9.ensures.value,
+      c.in_ok-extend_from_slice.ensures.items,
       c.in_ok-names.ensures,
+      c.as_slice-7.ensures.value,
+      c.in_ok-handed.ensures,
+      c.is_set-seen.ensures,
+      c.next_name-made.ensures,
       c.items-2.ensures,
       c.in_ok-lost.ensures,
       c.items.ensures,
-      c.as_slice-4.ensures.value,
-      c.in_ok-opens.ensures,
       c.as_slice-5.ensures.value,
+      c.in_ok-opens.ensures,
+      c.as_slice-6.ensures.value,
       c.in_ok-kept.ensures,
       c.as_slice.ensures.value,
       c.in_ok-ends.ensures,
