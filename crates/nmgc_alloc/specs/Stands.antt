@@ -1,10 +1,30 @@
 -- Segments and words of the heap that represent an allocation state.
-use Rattle.std.specs.Prelude.{ℕ, ◌≡◌, ◌≢◌, ◌↔◌, List, length, slice_index, Some, IsSome}
+use Rattle.std.specs.Prelude.{ℕ, Bool, ◌≡◌, ◌≢◌, ◌↔◌, List, length, map, slice_index, Some, IsSome, if◌then◌else◌}
 use Rattle.nmgc_world_spec.specs.declared.value.Name.{Name}
 use Rattle.nmgc_object.specs.{Size.name_place, Words.name_word, Places.word_total}
-use Rattle.nmgc_segment.specs.Segment.{InUse, block_count}
+use Rattle.nmgc_segment.specs.{declared.state.State.State, Segment.Segment, Segment.InUse, Segment.block_count}
 use Rattle.nmgc_segment.specs.declared.state.State.TheVariants as stands
-use Rattle.nmgc_alloc.specs.{Numbered.nth, Numbered.Segments, Numbered.block_place, Numbered.HasNumber, AllocState.Cells, AllocState.no_cells, AllocState.name_in, AllocState.AllocState, AllocState.cells, AllocState.AreNames}
+use Rattle.nmgc_alloc.specs.{Numbered.nth, Numbered.Segments, Numbered.block_place, Numbered.HasNumber, AllocState.Cells, AllocState.no_cells, AllocState.name_in, AllocState.AllocState, AllocState.cells, AllocState.AreNames, AllocState.prepared_state}
+
+-- the snapshot's index once a cycle has begun: `next_free`, or the old index if the segment is free
+abbrev pub prepared_snap : State → Segment → ℕ
+prepared_snap stands.Free segment = segment.snap
+prepared_snap (stands.Current m) segment = segment.next_free
+prepared_snap stands.Active segment = segment.next_free
+prepared_snap stands.Filled segment = segment.next_free
+prepared_snap stands.Sweeping segment = segment.next_free
+
+-- a segment when a cycle begins: unless it is free, its snapshot is taken, and a filled segment is to be swept
+abbrev pub prepared : Segment → Segment
+prepared segment = record segment { state = prepared_state segment.state; snap = prepared_snap segment.state segment }
+
+-- all segments when a cycle begins: each is prepared, and no segment was filled since
+abbrev pub begun : Segments → Segments
+begun s = record s { segments = map prepared s.segments; fresh = 0 }
+
+-- segments as contracts see them: prepared, even if that is late
+abbrev pub seen_late : Bool → Segments → Segments
+seen_late late s = if late then begun s else s
 
 -- cells that a segment and the words of the heap show: state and class are equal, and a block is in use exactly if it has a
 -- name. The name is valid, and is the block's second word. A free segment has no class and no names

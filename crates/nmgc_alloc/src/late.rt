@@ -13,7 +13,7 @@
 ghost use Rattle.std.specs.Prelude.{ℕ, ◌≡◌, ◌≢◌, ◌↔◌, ◌<◌, map, min, count_by, slice_set, IsTrue, IfOk, IfSome, IfNone, if◌then◌else◌};
 ghost use Rattle.nmgc_object.specs.Layouts.{IsLayout};
 ghost use Rattle.nmgc_segment.specs.{Marks.IsEpoch, Invariant.InSnapshot, Invariant.IsMarked, Segment.block_count};
-ghost use Rattle.nmgc_alloc.specs.{CycleSteps.prepared, CycleSteps.carried_over, CycleSteps.retired, CycleSteps.seen_late, declared.search.Category.TheVariants.Sweeping, Numbered.is, Numbered.nth, Search.sought_count, Halves.IsInHalf, Halves.SweepsMany};
+ghost use Rattle.nmgc_alloc.specs.{Stands.prepared, CycleSteps.carried_over, CycleSteps.retired, Stands.seen_late, declared.search.Category.TheVariants.Sweeping, Numbered.is, Numbered.nth, Search.sought_count, Halves.IsInHalf, Halves.SweepsMany};
 
 use crate::cycle_steps;
 use crate::segments::Segments as Done;
@@ -35,7 +35,7 @@ pub struct Segments {
 impl Model for Segments {
     ghost use Rattle.std.specs.Prelude.{IsTrue};
     ghost use Rattle.nmgc_segment.specs.declared.state.State.TheVariants.{Sweeping as Waiting};
-    ghost use Rattle.nmgc_alloc.specs.{Numbered.Segments as Shown, CycleSteps.seen_late, Segments.HasNoneIn};
+    ghost use Rattle.nmgc_alloc.specs.{Numbered.Segments as Shown, Stands.seen_late, Segments.HasNoneIn};
 
     ghost Value = { Shown };
 

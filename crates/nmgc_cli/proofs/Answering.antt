@@ -1,5 +1,5 @@
 -- The answer to bytes, to a task and to arguments, one inside the other, and its output.
-use Rattle.nmgc_cli.proofs.Vocabulary.{◌≡◌, ◌≢◌, ◌≤◌, ◌<◌, ℕ, ◌+◌, List, ◌++◌, length, refl, sym, ◌∙◌, ap, subst, arith, Option, Some, None, Ok, Err, inl, inr, ◌⊎◌, append-nil, IfSome, Appends, Report, End, bench_script, upgraded, Spells, plain, Script, Name, MAX_IMAGE_BYTES, Retained, IsCertified, retained_text, report_text, summary_text, Answer, refusal_status, answer_status, answer_report, answer_text, text_bytes, IsOutputOf, IsRan, status_of, AnswersBench, IsRead, IsReadWithin, SpellsOnly, IsUpgraded, Answers, AnswersScript, AnswersRetain, IsOutputOfReport, AnswersWithReport, IsText, IsSummary, IsImageText, IsAnswer, IsWritten, Ends, IsReport, IsRunThrough, IsComplete, IsBenchComplete, IsUpgrade, IsUpgradeComplete, IsPath, IsRetainComplete, IsMarksText, IsRunOf, IsHeapFull, Asks, CanBeDone, IsRunning, Refusal, Output, Status, Done, WriteFault, HeapFull, NoMemory, Task, Run, Bench, Upgrade, Image, Retain, Marks, most_script_bytes, taken_within, Result, ReadEnd, ScriptFault, IsFaultOf, Takes, TakesUpTo, AnswersBytes, read_refusal, script_refusal, most_bytes, lines_few, kept_lines}
+use Rattle.nmgc_cli.proofs.Vocabulary.{◌≡◌, ◌≢◌, ◌≤◌, ◌<◌, ℕ, ◌+◌, List, ◌++◌, length, refl, sym, ◌∙◌, ap, subst, arith, Option, Some, None, Ok, Err, inl, inr, ◌⊎◌, append-nil, IfSome, Appends, Report, End, bench_script, upgraded, Spells, plain, Script, Name, MAX_IMAGE_BYTES, Retained, IsRight, retained_text, report_text, summary_text, Answer, refusal_status, answer_status, answer_report, answer_text, text_bytes, IsOutputOf, IsRan, status_of, AnswersBench, IsRead, IsReadWithin, SpellsOnly, IsUpgraded, Answers, AnswersScript, AnswersRetain, IsOutputOfReport, AnswersWithReport, IsText, IsSummary, IsImageText, IsAnswer, IsWritten, Ends, ReadsNothing, IsReading, IsReport, IsReportOfTask, IsRunThrough, IsComplete, IsBenchComplete, IsUpgrade, IsUpgradeComplete, IsPath, IsRetainComplete, IsMarksText, IsRunOf, IsHeapFull, Asks, CanBeDone, IsRunning, Refusal, Output, Status, Done, WriteFault, HeapFull, NoMemory, Task, Run, Bench, Upgrade, Image, Retain, Marks, most_script_bytes, taken_within, Result, ReadEnd, ScriptFault, IsFaultOf, Takes, TakesUpTo, AnswersBytes, read_refusal, script_refusal, most_bytes, lines_few, kept_lines}
 use Rattle.nmgc_journal.specs.declared.report.End.TheVariants as end
 use Rattle.nmgc_image.specs.declared.image.Image as shown
 use Rattle.nmgc_image.specs.Spelling as spelling
@@ -26,14 +26,19 @@ asked_can arguments Image h = tt
 asked_can arguments (Retain name) h = tt
 asked_can arguments (Marks markers) h = h.1
 
+-- a task that such arguments ask for reads nothing
+pub asked_unread : (arguments : List (List ℕ)) (task : Task) → Asks arguments task → ReadsNothing arguments → IsReading task → ⊥
+asked_unread arguments task asks (inl wrong) reads = wrong task asks
+asked_unread arguments task asks (inr bench) reads = subst IsReading (one_task arguments task (Bench bench.0) asks bench.1) reads
+
 -- the refusal `Usage` comes only for arguments that ask for no task
 no_usage : (task : Task) (old new : Option (List ℕ)) (rose : Type 0) → Answers task old new rose (Err no.Usage) → ⊥
-no_usage Run old new rose h = h
+no_usage Run old new rose h = h.2
 no_usage (Bench batches) old new rose h = h.1
-no_usage Upgrade old new rose h = h
-no_usage Image old new rose h = h
-no_usage (Retain name) old new rose h = h
-no_usage (Marks markers) old new rose h = h
+no_usage Upgrade old new rose h = h.2
+no_usage Image old new rose h = h.2
+no_usage (Retain name) old new rose h = h.2
+no_usage (Marks markers) old new rose h = h.2
 
 -- the answer to a task is the answer to arguments that ask for the task
 pub asked_answered : (arguments : List (List ℕ)) (task : Task) (old new : Option (List ℕ)) (rose : Type 0) (answer : Answer) → Asks arguments task →
@@ -74,21 +79,21 @@ written_as taken taken' rose status output report text s t h =
 of_report : (task : Task) (arguments : List (List ℕ)) (left left' taken taken' : Option (List ℕ)) (read_fault write_fault : Type 0) (status : Status)
     (output : Output) → Asks arguments task → Answers task left left' read_fault (Ok output) →
     IsWritten taken taken' write_fault output.status (text_bytes output.text) status →
-    IfSome output.report (λ report. IsReport arguments left left' taken taken' write_fault status report)
+    IfSome output.report (λ report. IsReportOfTask arguments left left' taken taken' write_fault status report)
 of_report Run arguments left left' taken taken' read_fault write_fault status output asks (report, h, t) text =
     let written : IsWritten taken taken' write_fault (status_of report.end) (report_text report) status =
     written_as taken taken' write_fault status output report (report_text report) t.status t.text text in
-    subst (λ (f : Option Report). IfSome f (λ r. IsReport arguments left left' taken taken' write_fault status r)) (sym t.report_is)
-    (inl (record { asked = asks; bytes = h.0; read = h.1; script = h.2.0; spells = h.2.1; run = h.2.2.run; written = written }))
+    subst (λ (f : Option Report). IfSome f (λ r. IsReportOfTask arguments left left' taken taken' write_fault status r)) (sym t.report_is)
+    (inl (record { asked = asks; bytes = h.0; read = h.1; script = h.2.0; spells = h.2.1; lawful = h.2.2.run.lawful; written = written }))
 of_report (Bench batches) arguments left left' taken taken' read_fault write_fault status output asks (unread, (report, h, t)) text =
     let written : IsWritten taken taken' write_fault (status_of report.end) (summary_text batches report) status =
     written_as taken taken' write_fault status output report (summary_text batches report) t.status t.text text in
-    subst (λ (f : Option Report). IfSome f (λ r. IsReport arguments left left' taken taken' write_fault status r)) (sym t.report_is)
-    (inr (inl (record { batches = batches; asked = asks; unread = unread; run = h; written = written })))
+    subst (λ (f : Option Report). IfSome f (λ r. IsReportOfTask arguments left left' taken taken' write_fault status r)) (sym t.report_is)
+    (inr (inl (record { batches = batches; asked = asks; unread = unread; lawful = h.lawful; written = written })))
 of_report Image arguments left left' taken taken' read_fault write_fault status output asks (report, h, t) text =
     let written : IsWritten taken taken' write_fault (status_of report.end) (text_bytes output.text) status =
     written_as taken taken' write_fault status output report (text_bytes output.text) t.status refl text in
-    subst (λ (f : Option Report). IfSome f (λ r. IsReport arguments left left' taken taken' write_fault status r)) (sym t.report_is)
+    subst (λ (f : Option Report). IfSome f (λ r. IsReportOfTask arguments left left' taken taken' write_fault status r)) (sym t.report_is)
     (inr (inr (inl (record {
       asked = asks;
       bytes = h.0;
@@ -101,11 +106,11 @@ of_report Image arguments left left' taken taken' read_fault write_fault status 
       written = written;
     }))))
 of_report (Retain name) arguments left left' taken taken' read_fault write_fault status output asks h text =
-    subst (λ (f : Option Report). IfSome f (λ r. IsReport arguments left left' taken taken' write_fault status r)) (sym h.2.none) tt
+    subst (λ (f : Option Report). IfSome f (λ r. IsReportOfTask arguments left left' taken taken' write_fault status r)) (sym h.2.none) tt
 of_report (Marks markers) arguments left left' taken taken' read_fault write_fault status output asks (report, h, t) text =
     let written : IsWritten taken taken' write_fault (status_of report.end) (text_bytes output.text) status =
     written_as taken taken' write_fault status output report (text_bytes output.text) t.status refl text in
-    subst (λ (f : Option Report). IfSome f (λ r. IsReport arguments left left' taken taken' write_fault status r)) (sym t.report_is)
+    subst (λ (f : Option Report). IfSome f (λ r. IsReportOfTask arguments left left' taken taken' write_fault status r)) (sym t.report_is)
     (inr (inr (inr (record {
       markers = markers;
       asked = asks;
@@ -119,23 +124,33 @@ of_report (Marks markers) arguments left left' taken taken' read_fault write_fau
       written = written;
     }))))
 of_report Upgrade arguments left left' taken taken' read_fault write_fault status output asks h text =
-    subst (λ (f : Option Report). IfSome f (λ r. IsReport arguments left left' taken taken' write_fault status r)) (sym h.2.2.none) tt
+    subst (λ (f : Option Report). IfSome f (λ r. IsReportOfTask arguments left left' taken taken' write_fault status r)) (sym h.2.2.none) tt
 
 of_answer : (arguments : List (List ℕ)) (left left' taken taken' : Option (List ℕ)) (read_fault write_fault : Type 0) (answer : Answer)
     (status : Status) → IsAnswer arguments left left' read_fault answer →
     IsWritten taken taken' write_fault (answer_status answer) (answer_text answer) status →
-    IfSome (answer_report answer) (λ report. IsReport arguments left left' taken taken' write_fault status report)
+    IfSome (answer_report answer) (λ report. IsReportOfTask arguments left left' taken taken' write_fault status report)
 of_answer arguments left left' taken taken' read_fault write_fault (Ok output) status reported text =
     of_report reported.0 arguments left left' taken taken' read_fault write_fault status output reported.1 reported.2 text
 of_answer arguments left left' taken taken' read_fault write_fault (Err refusal) status reported text = tt
 
 pub reports : (arguments : List (List ℕ)) (left left' taken taken' : Option (List ℕ)) (read_fault write_fault : Type 0) (answer : Answer)
     (status : Status) (found : Option Report) → IsAnswer arguments left left' read_fault answer → Ends taken taken' write_fault answer status found →
-    IfSome found (λ report. IsReport arguments left left' taken taken' write_fault status report)
+    IfSome found (λ report. IsReportOfTask arguments left left' taken taken' write_fault status report)
 reports arguments left left' taken taken' read_fault write_fault answer status found reported ended =
     subst (λ (f : Option Report).
-    IfSome f (λ report. IsReport arguments left left' taken taken' write_fault status report)) (sym ended.report_of)
+    IfSome f (λ report. IsReportOfTask arguments left left' taken taken' write_fault status report)) (sym ended.report_of)
     (of_answer arguments left left' taken taken' read_fault write_fault answer status reported ended.written)
+
+-- so is the report of a run or a bench, and that of another task is asked for
+pub told : (arguments : List (List ℕ)) (left left' taken taken' : Option (List ℕ)) (rose : Type 0) (status : Status) (found : Option Report) →
+    IfSome found (λ report. IsReportOfTask arguments left left' taken taken' rose status report) →
+    IfSome found (λ report. IsReport arguments left left' taken taken' rose status report)
+told arguments left left' taken taken' rose status None h = tt
+told arguments left left' taken taken' rose status (Some report) (inl h) = inl h
+told arguments left left' taken taken' rose status (Some report) (inr (inl h)) = inr (inl h)
+told arguments left left' taken taken' rose status (Some report) (inr (inr (inl h))) = inr (inr (inl h.asked))
+told arguments left left' taken taken' rose status (Some report) (inr (inr (inr h))) = inr (inr (inr (h.markers, h.asked)))
 
 -- the answer to bytes that were read to their end is the answer to a script that is read
 pub read_answers : {X : Type 0} (Gives : Script → X → Type 0) (old new : Option (List ℕ)) (rose : Type 0) (bytes : List ℕ) (answer : Result X Refusal) →
@@ -190,7 +205,7 @@ of_run bytes script new rose report spells h =
 refused : {X : Type 0} (Gives : Script → X →
     Type 0) (bytes : List ℕ) (script : Script) (new : Option (List ℕ)) (rose : Type 0) (refusal : Refusal) → length bytes ≤ most_bytes bytes →
     Spells bytes script → (rose → ⊥) → AnswersScript Gives (Some bytes) new rose (Err refusal) → refusal_status refusal ≡ NoMemory
-refused Gives bytes script new rose no.Usage within spells none h = absurd h
+refused Gives bytes script new rose no.Usage within spells none h = absurd h.2
 refused Gives bytes script new rose no.ReadFault within spells none h = absurd (none h.1)
 refused Gives bytes script new rose no.TooLong within spells none (inl h) =
     absurd (omega (arith, taken_within bytes new (most_script_bytes + 1) h, within, lines_few (kept_lines bytes)))
@@ -258,9 +273,11 @@ retain_answer : (name : Name) (bytes : List ℕ) (image : shown.Image) (new : Op
     length bytes ≤ MAX_IMAGE_BYTES → spelling.Spells bytes image → (rose → ⊥) → AnswersRetain name (Some bytes) new rose answer →
     (answer_status answer ≡ NoMemory) ⊎ (answer_status answer ≡ Done)
 retain_answer name bytes image new rose (Ok output) within spells none h = inr h.2.status
-retain_answer name bytes image new rose (Err no.Usage) within spells none h = absurd h
+retain_answer name bytes image new rose (Err no.Usage) within spells none h = absurd h.2
 retain_answer name bytes image new rose (Err no.ReadFault) within spells none h = absurd (none h.1)
-retain_answer name bytes image new rose (Err no.TooLong) within spells none h = absurd (omega (arith, taken_within bytes new (MAX_IMAGE_BYTES + 1) h, within))
+retain_answer name bytes image new rose (Err no.TooLong) within spells none (inl h) =
+    absurd (omega (arith, taken_within bytes new (MAX_IMAGE_BYTES + 1) h, within))
+retain_answer name bytes image new rose (Err no.TooLong) within spells none (inr h) = absurd h.2
 retain_answer name bytes image new rose (Err (no.Bad line c)) within spells none h = absurd h.2
 retain_answer name bytes image new rose (Err (no.BadImage line)) within spells none h =
     absurd (h.2.none image (subst (λ (b : List ℕ). spelling.Spells b image) (whole MAX_IMAGE_BYTES bytes h.0 new h.1) spells))
@@ -358,17 +375,17 @@ path_no_full : (name : Name) (old new : Option (List ℕ)) (rose : Type 0) (answ
 path_no_full name old new rose (Ok output) h = λ e. let same : Done ≡ HeapFull = sym h.2.status ∙ e in cc
 path_no_full name old new rose (Err refusal) h = (refusal_not refusal).0
 
--- the text that was written is the text of a certified answer
+-- the text that was written is the text of a right answer
 path_text : (name : Name) (old new taken taken' : Option (List ℕ)) (rose : Type 0) (answer : Answer) → AnswersRetain name old new rose answer →
     answer_status answer ≡ Done → Appends taken taken' (answer_text answer) → (bytes : List ℕ) × IsReadWithin MAX_IMAGE_BYTES old new bytes ×
-    (image : shown.Image) × spelling.Spells bytes image × (found : Retained) × IsCertified image name found × Appends taken taken' (retained_text found)
+    (image : shown.Image) × spelling.Spells bytes image × (found : Retained) × IsRight image name found × Appends taken taken' (retained_text found)
 path_text name old new taken taken' rose (Ok output) h done text = (
   h.0,
   h.1,
   h.2.image,
   h.2.spells,
   h.2.answer,
-  h.2.certified,
+  h.2.right,
   subst (λ (b : List ℕ). Appends taken taken' b) h.2.text text,
 )
 path_text name old new taken taken' rose (Err refusal) h done text = absurd ((refusal_not refusal).1 done)

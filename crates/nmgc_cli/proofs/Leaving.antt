@@ -1,5 +1,5 @@
 -- The heap that a run left represents its last world, and so has an image.
-use Rattle.nmgc_cli.proofs.Vocabulary.{arith, IsSegments, Script, Report, IsRunOf, snapshots, last_state, IsRunnable, State, Plan, plan_of, layout_of, runnable_of, scripts_have_good_plans, states_are_within, blocks_at_stop, states_are_sound, IsInLimits, IsLeftAs, places_low}
+use Rattle.nmgc_cli.proofs.Vocabulary.{arith, IsSegments, Script, Report, IsRunOf, snapshots, last_state, IsRunnable, State, Plan, plan_of, layout_of, runnable_of, heap_at_stop, scripts_have_good_plans, states_are_within, blocks_at_stop, states_are_sound, IsInLimits, IsLeftAs, places_low}
 
 pub left_as : (script : Script) (report : Report) → IsSegments report.segments → IsInLimits script → (run : IsRunOf script report) →
     IsLeftAs report (last_state run.lawful.run).world
@@ -7,7 +7,8 @@ left_as script report segments limits run =
     let plan : Plan = plan_of script in
     let lawful = run.lawful in
     let s : State = last_state lawful.run in
-    let h = lawful.heap in
+    let left = heap_at_stop script report limits.fits limits.few lawful in
+    let h = left.2 in
     let runnable : IsRunnable plan = runnable_of script limits.fits limits.few in
     let good = scripts_have_good_plans script limits.fits in
     let most = limits.fits.config.words.most in
@@ -24,9 +25,9 @@ left_as script report segments limits run =
       registers = h.holds.registers;
       roots = h.holds.roots;
       layout_is = h.holds.layout_is;
-      blocks = blocks_at_stop (layout_of plan) s report.words report.segments report.mutators lawful.weaks h;
-      settled = places_low (layout_of plan) s report.words report.segments report.mutators lawful.weaks segments h;
-      weaks = lawful.weaks;
+      blocks = blocks_at_stop (layout_of plan) s report.words report.segments report.mutators left.0 h;
+      settled = places_low (layout_of plan) s report.words report.segments report.mutators left.0 segments h;
+      weaks = left.0;
       listed = h.listed;
-      weaks_are = lawful.weaks_are;
+      weaks_are = left.1;
     }

@@ -10,10 +10,6 @@ use Rattle.nmgc_cli.specs.declared.status.Status.TheVariants.{Usage, ReadFault, 
 use Rattle.nmgc_run_spec.specs.Crowded.{IsRunOf}
 use Rattle.nmgc_journal.specs.declared.report.End.TheVariants as end
 
--- the report of a run, or the reason why there is none
-abbrev pub Reported : Type 0
-Reported = Result Report Refusal
-
 -- an answer: the output of a task that was done (a status, the report if a script was run, and a text), or the refusal
 abbrev pub Answer : Type 0
 Answer = Result Output Refusal
@@ -38,16 +34,12 @@ cause_text cause.Arity = codes "arity"
 cause_text cause.Operand = codes "operand"
 cause_text cause.Size = codes "size"
 
--- the line that reports the first bad line of a script
-abbrev pub bad_line : ℕ → Cause → List ℕ
-bad_line line c = codes "bad line " ++ decimal line ++ 32 ∷ cause_text c ++ 10 ∷ []
-
 -- the text of a refusal
 abbrev pub refusal_text : Refusal → List ℕ
 refusal_text no.Usage = codes "usage: nmgc run | nmgc bench N | nmgc upgrade | nmgc image | nmgc retain NAME | nmgc marks N\n"
 refusal_text no.ReadFault = codes "read fault\n"
 refusal_text no.TooLong = codes "too long\n"
-refusal_text (no.Bad line c) = bad_line line c
+refusal_text (no.Bad line c) = codes "bad line " ++ decimal line ++ 32 ∷ cause_text c ++ 10 ∷ []
 refusal_text (no.BadImage line) = count_line (codes "bad image line ") line
 refusal_text no.NoMemory = codes "no memory\n"
 

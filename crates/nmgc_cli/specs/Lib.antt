@@ -1,6 +1,7 @@
 pub mod Answer
 pub mod Bench
 pub mod Claimed
+pub mod Consequences
 pub mod Marks
 pub mod Output
 pub mod Parts

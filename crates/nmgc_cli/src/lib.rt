@@ -8,6 +8,7 @@
 //! - `task`: the tasks that the arguments of the command line ask for.
 //! - `top`: the top call. `answer`, `output`, `message`: the answer, and its output.
 //! - `run`, `bench`, `upgrading`, `imaging`, `retaining`, `marks`: one subcommand each.
+//! - `laws`: what follows from an answer that was written.
 //! - `status`, `entry`: statuses with their numbers, and the whole program except for its streams.
 #![tactic(auto)]
 
@@ -15,6 +16,7 @@ pub mod answer;
 mod bench;
 pub mod entry;
 mod imaging;
+pub mod laws;
 pub mod marks;
 mod message;
 pub mod output;

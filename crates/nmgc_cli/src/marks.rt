@@ -6,8 +6,9 @@
 //! threads can't read a report's words at once, since a closed table may not be shared. The words are copied first.
 ghost use Rattle.std.specs.Prelude.{◌≡◌, ℕ, [], ◌∷◌, ◌++◌, decimal, map, string_bytes, IfOk, IfSome, IfNone, OnOk};
 ghost use Rattle.std.specs.List.{flat_map};
+ghost use Rattle.nmgc_journal.specs.Text.{name_line};
 ghost use Rattle.nmgc_pmark.specs.Stops.{root_words};
-ghost use Rattle.nmgc_cli.specs.{Claimed.AreClaimsOf, Marks.IsMarksText, Marks.marks_lines, Marks.name_line, Answer.IsRan, Parts.IsOfScript, Task.Asks, Task.AreMarkers, Output.AnswersScript, Output.AnswersWithReport, declared.task.Task.TheVariants.Marks};
+ghost use Rattle.nmgc_cli.specs.{Claimed.AreClaimsOf, Marks.IsMarksText, Marks.marks_lines, Answer.IsRan, Parts.IsOfScript, Task.Asks, Parts.AreMarkers, Output.AnswersScript, Output.AnswersWithReport, declared.task.Task.TheVariants.Marks};
 ghost use Rattle.nmgc_io.specs.Counts.{Rose};
 
 use crate::answer::Refusal;
@@ -17,7 +18,7 @@ use nmgc_io::{Source, push_number, read_number};
 use nmgc_journal::text::push_end;
 use nmgc_journal::{End, FinalWords, MutatorEnd, Report, push_name};
 use nmgc_lists::NoMemory;
-use nmgc_pmark::laws::a_stop_is_stopped;
+use nmgc_pmark::laws::{a_stop_is_stopped, roots_start_strong_reach};
 use nmgc_pmark::{Claims, MOST_MARKERS, mark_all, names_of};
 use nmgc_round::{Gate, OpenGate};
 use nmgc_world_spec::Name;
@@ -89,6 +90,7 @@ pub fn marks_text<R: Threads + Sync>(
 {
     let claims = claims_of(alloc, rt, markers, report, &OpenGate)?;
     let names = names_of(alloc, &claims)?;
+    roots_start_strong_reach();
     lines(alloc, markers, names.items(), report.end)
 }
 
@@ -163,7 +165,7 @@ fn lines(alloc: Global, markers: u8, names: &[Name], end: End) -> Result<Vec<u8>
 
 // Appends a line for each name.
 fn push_names(out: &mut Vec<u8>, names: &[Name]) -> Result<(), NoMemory>
-    ensures { OnOk result (out.new.items ≡ out.old.items ++ flat_map name_line names.now) }
+    ensures { OnOk result (out.new.items ≡ out.old.items ++ flat_map (name_line []) names.now) }
 {
     for name in names {
         push_name(out, *name)?;

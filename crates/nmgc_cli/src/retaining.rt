@@ -7,7 +7,7 @@ ghost use Rattle.nmgc_world_spec.specs.declared.value.Name.{Name as NameOf};
 ghost use Rattle.nmgc_io.specs.Counts.{Rose};
 ghost use Rattle.nmgc_journal.specs.Text.{name_text};
 ghost use Rattle.nmgc_object.specs.Words.{IsName};
-ghost use Rattle.nmgc_cli.specs.{Task.Asks, Output.AnswersRetain, Output.AnswersImage, declared.task.Task.TheVariants.Retain};
+ghost use Rattle.nmgc_cli.specs.{Task.Asks, Parts.AnswersRetain, Output.AnswersImage, declared.task.Task.TheVariants.Retain};
 
 use crate::Status;
 use crate::answer::Refusal;

@@ -5,8 +5,8 @@
 //! the status. Each task is in a file of its own.
 ghost use Rattle.std.specs.Prelude.{◌≡◌, map, string_bytes, IfSome};
 ghost use Rattle.nmgc_io.specs.Counts.{Rose};
-ghost use Rattle.nmgc_cli.specs.{Answer.Answer, Parts.IsOutputOf, Parts.CanBeDone, Task.IsReading};
-ghost use Rattle.nmgc_cli.specs.Output.{IsAnswer, Answers, Ends, IsReport, IsComplete, IsBenchComplete, IsUpgrade, IsUpgradeComplete, IsPath, IsRetainComplete, ReadsNothing};
+ghost use Rattle.nmgc_cli.specs.{Answer.Answer, Parts.IsOutputOf, Parts.CanBeDone, Parts.IsReading};
+ghost use Rattle.nmgc_cli.specs.Output.{IsAnswer, Answers, Ends, IsReport, ReadsNothing};
 
 use crate::answer::Refusal;
 use crate::bench::bench;
@@ -57,35 +57,14 @@ pub fn nmgc<R: Threads + Sync, S: Source, K: Sink>(
     ensures reported { (answer : Answer)
         × IsAnswer (map string_bytes arguments.now) (S.left source.old) (S.left source.new) (Rose (S.faults source.old) (S.faults source.new)) answer
         × Ends (K.taken sink.old) (K.taken sink.new) (Rose (K.faults sink.old) (K.faults sink.new)) answer result.status result.report }
-    // The theorem of the repository. A report that is returned is lawful for the one script that was read to its end, or for
-    // the bench's script, and its end has its cause. The text of the task for this report was written with the status of this
-    // end; if the sink failed, a prefix of the text was written.
+    // The theorem of the repository. A report of `run` or `bench N` is lawful for the one script that was read to its end, or
+    // for the bench's script, and its end has its cause. The report's text or summary was written with the status of this
+    // end; if the sink failed, a prefix of it was written. By `laws` the same holds of `image` and `marks N` with their texts.
     ensures report { IfSome result.report (λ report.
         IsReport (map string_bytes arguments.now) (S.left source.old) (S.left source.new) (K.taken sink.old) (K.taken sink.new)
         (Rose (K.faults sink.old) (K.faults sink.new)) result.status report) }
-    // If `upgrade` ends as `Done`, one script was read to its end, and the plain spelling of its upgrade was written. It
-    // never returns a report, and never ends as `HeapFull`.
-    ensures upgrade { IsUpgrade (map string_bytes arguments.now) (S.left source.old) (S.left source.new) (K.taken sink.old) (K.taken sink.new)
-        result.status result.report }
-    // If `retain` ends as `Done`, an image was read to its end, and the text of an answer was written that `verify` certifies
-    // in this image, so the answer is right. It never returns a report, and never ends as `HeapFull`.
-    ensures path { IsPath (map string_bytes arguments.now) (S.left source.old) (S.left source.new) (K.taken sink.old) (K.taken sink.new) result.status
-        result.report }
     // For wrong arguments and for a bench the source stays as it is.
     ensures unread { ReadsNothing (map string_bytes arguments.now) → source.new ≡ source.old }
-    // For `run`, `image` and `marks N`: if a script within the limit is read and nothing fails, the status is `Done`,
-    // `HeapFull` or `NoMemory`. If it is `HeapFull`, each run that the report describes has the cause, and so has the run in
-    // the clause `report`. The cause: its last stop did a full cycle, yet left too few segments free, and is crowded.
-    ensures complete { IsComplete (map string_bytes arguments.now) (S.left source.old) (Rose (S.faults source.old) (S.faults source.new))
-        (Rose (K.faults sink.old) (K.faults sink.new)) result.status result.report }
-    // For `upgrade`: if a script within the limit is read and nothing fails, the status is `Done`, unless memory runs out.
-    ensures upgraded { IsUpgradeComplete (map string_bytes arguments.now) (S.left source.old) (Rose (S.faults source.old) (S.faults source.new))
-        (Rose (K.faults sink.old) (K.faults sink.new)) result.status }
-    // For `retain`: if an image within the limit is read and nothing fails, the status is `Done` (path or not) or `NoMemory`.
-    ensures retain { IsRetainComplete (map string_bytes arguments.now) (S.left source.old) (Rose (S.faults source.old) (S.faults source.new))
-        (Rose (K.faults sink.old) (K.faults sink.new)) result.status }
-    // For `bench N`: if the sink doesn't fail, its script is run through, with the same statuses and cause of `HeapFull`.
-    ensures bench { IsBenchComplete (map string_bytes arguments.now) (Rose (K.faults sink.old) (K.faults sink.new)) result.status result.report }
 {
     let Output {
         status,
@@ -117,7 +96,7 @@ fn output_for<R: Threads + Sync, S: Source>(
 }
 
 // Does the task that the arguments ask for, and returns its answer. If they ask for none, the answer is a refusal.
-#[tactic(auto, using(crate::proofs::Answering::asked_answered, crate::proofs::Answering::asked_can))]
+#[tactic(auto, using(crate::proofs::Answering::asked_answered, crate::proofs::Answering::asked_can, crate::proofs::Answering::asked_unread))]
 fn answer<R: Threads + Sync, S: Source>(
     alloc: Global,
     rt: &R,

@@ -9,8 +9,9 @@ use Rattle.nmgc_heap_spec.specs.Places.{Place}
 use Rattle.nmgc_journal.specs.declared.report.MutatorEnd.{MutatorEnd}
 use Rattle.nmgc_round.specs.{Events.rows_in, Finishing.IsFinished, Finishing.places_then, Rule.now, Seat.RoundSeat, View.Opening, View.Scan, Marking.Marks, Marking.marks_of, Marking.marks_after}
 use Rattle.nmgc_mutator.specs.declared.mutator.Mutator.{Mutator}
-use Rattle.nmgc_collector_laws.specs.{Worked.Done, Collector.EachMutator, Collector.IsMarking, Seen.CollectorSeen, Seen.MutatorSeen, Prepares.all_prepared, Keeps.HasLeft, Keeps.NoneRemember, Keeps.ShowEntries, Owed.GoesOn, Owed.IsGathered, Owed.gathered, RestMarking.with_rows}
-use Rattle.nmgc_stop_spec.specs.Cycle.{interval_of, Cycle}
+use Rattle.nmgc_collector_laws.specs.{Worked.Done, Collector.EachMutator, Collector.IsMarking, Seen.CollectorSeen, Seen.MutatorSeen, Prepares.all_prepared, Keeps.HasLeft, Keeps.NoneRemember, Keeps.ShowEntries, Owed.GoesOn, Owed.IsGathered, Owed.gathered, RestMarking.with_rows, Collector.HasFound}
+use Rattle.nmgc_stop_spec.specs.Cycle.{Cycle}
+use Rattle.nmgc_stop_spec.specs.Kept.{interval_of}
 use Rattle.nmgc_weak.specs.Queues.{weak_count}
 use Rattle.nmgc_run_spec.specs.{Heap.HoldsAtStop, State.State, State.next_cycle, State.cycle_started}
 use Rattle.nmgc_sweep.specs.Sweeping.{HasListedNothing, HasNoted}
@@ -32,7 +33,8 @@ SnapshotIsMarking = (layout : Layout) (s : State) (words : List ℕ) (old : Segm
     HasNoted (next_cycle s) new.sweeper → HasListedNothing new.sweeper
     → IsMarking (next_cycle s) (cycle_started s) new h.places
 
--- the law that after the marker's work in a round the cycle is still marking, with the round's rows and remembered entries
+-- the law that after the marker's work in a round the cycle is still marking, with the round's rows and remembered entries.
+-- All marked objects are found
 abbrev pub RoundIsMarking : Type 0
 RoundIsMarking = (layout : Layout) (c : Cycle) (s t : State) (old new : CollectorSeen) (before after : List ℕ) (ends : List MutatorEnd) (weaks : List Place)
     (o : Opening) (scans : List Scan) (seats : List RoundSeat) (mutators : List Mutator) (done : List (List Done)) (core : Core) (scanned : ℕ) →
@@ -42,7 +44,7 @@ RoundIsMarking = (layout : Layout) (c : Cycle) (s t : State) (old new : Collecto
     → IsGathered o scans seats mutators done → GoesOn c o after (gathered o scans seats) f mutators core
     → HasMarked old.segments new.segments old.marker new.marker scanned → IsTiedByPlaces o (marks_after o scans) new.segments new.marker →
     HasLeft c old new → ShowEntries new mutators
-    → IsMarking (with_rows c (rows_in f.events)) t new (places_then o f.born)
+    → IsMarking (with_rows c (rows_in f.events)) t new (places_then o f.born) × HasFound (with_rows c (rows_in f.events)) new.marker
 
 -- the law that the cycle is still marking, and nothing is remembered, after the marker added all remembered entries
 abbrev pub AddIsMarking : Type 0

@@ -3,7 +3,8 @@ use Rattle.std.specs.Prelude.{ℕ, ◌≡◌, ◌+◌, ◌-◌, ◌/◌, ◌≤�
 use Rattle.nmgc_snapshot_laws.specs.State.{State as Core}
 use Rattle.nmgc_alloc.specs.AllocState.{AllocState}
 use Rattle.nmgc_heap_spec.specs.Places.{Place}
-use Rattle.nmgc_stop_spec.specs.Cycle.{IsKeptObject, interval_of, Cycle}
+use Rattle.nmgc_stop_spec.specs.Cycle.{Cycle}
+use Rattle.nmgc_stop_spec.specs.Kept.{IsKeptObject, interval_of}
 use Rattle.nmgc_world_laws.specs.Reachable.{IsSound}
 use Rattle.nmgc_run_spec.specs.{Closing.IsSoon, Closing.IsPaced, Closing.MayWait, State.State}
 use Rattle.nmgc_collector_laws.specs.{Collector.IsPacedAfterRound, Marker.IsCoreOf, Marker.IsTied, Seen.CollectorSeen}
@@ -27,6 +28,5 @@ ClosingIsPaced = (quota : ℕ) (c : Cycle) (t : State) (seen : CollectorSeen) (a
 
 -- the law that a cycle may go on after a round that left something to scan (`MayWait`)
 abbrev pub WaitingIsPaced : Type 0
-WaitingIsPaced = (quota : ℕ) (c : Cycle) (t : State) (seen : CollectorSeen) (allocation : AllocState) (places : List Place) (core : Core) →
-    IsSound (interval_of c) → IsCoreOf c t.world core → IsTied c allocation seen.segments places seen.marker core → c.from + 1 ≤ t.number →
-    IsPacedAfterRound quota c t seen → seen.work.empty ≡ false → MayWait quota c t.number
+WaitingIsPaced = (quota : ℕ) (c : Cycle) (t : State) (seen : CollectorSeen) → c.from + 1 ≤ t.number → IsPacedAfterRound quota c t seen →
+    seen.work.empty ≡ false → MayWait quota c t.number

@@ -4,7 +4,7 @@
 -- It holds after a new collector's opening stop, after every stop, and after the round between two stops, for the same run.
 -- Contracts see the collector as `CollectorSeen`.
 use Rattle.std.specs.Prelude.{ℕ, ◌≡◌, ◌≢◌, ◌⊎◌, ◌↔◌, ◌+◌, ◌-◌, ◌*◌, ◌<◌, ◌≤◌, List, [], ◌∷◌, ◌++◌, length, slice_get, Contains, Some, None, true}
-use Rattle.nmgc_world_spec.specs.{declared.command.Reply.Reply, World.World, History.Row}
+use Rattle.nmgc_world_spec.specs.{declared.command.Reply.Reply, World.World, History.Row, Listing.MoreThan}
 use Rattle.nmgc_object.specs.{declared.layout.Layout.Layout, declared.layout.Nursery.Nursery, Places.nursery_place, Places.reserve_count}
 use Rattle.nmgc_alloc.specs.{Reserve.free_count, Settled.AreSettled}
 use Rattle.nmgc_heap_spec.specs.Places.{Place}
@@ -12,7 +12,7 @@ use Rattle.nmgc_stop_spec.specs.{Nurseries.AreUsed, Nurseries.LieInOrder, Nurser
 use Rattle.nmgc_snapshot_laws.specs.State.{State as Core, names_of}
 use Rattle.nmgc_journal.specs.declared.report.RoundRows.{RoundRows}
 use Rattle.nmgc_run_spec.specs.State.{Plan, State, Progress, idle, marking, sweeping, phase_of, layout_of, start}
-use Rattle.nmgc_run_spec.specs.{Round.IsRound, Stop.answer_of, Run.Run, Run.IsRun, Run.AreRowsOf, Run.last_state, Heap.HoldsAtStop, AfterRound.HoldsAfterRound, Heap.snapshots}
+use Rattle.nmgc_run_spec.specs.{Closing.IsFoundObject, Round.IsRound, Stop.answer_of, Run.Run, Run.IsRun, Run.AreRowsOf, Run.last_state, Heap.HoldsAtStop, AfterRound.HoldsAfterRound, Heap.snapshots}
 use Rattle.nmgc_collector_laws.specs.{Seen.CollectorSeen, Seen.MutatorSeen, Seen.ends_of, Seen.nurseries_of, Seen.recorded_in, Seen.young_weaks_in, Seen.finalised_in, Marker.IsCoreOf, Marker.AreRemembered, Marker.IsTied, Worked.ListsFinalised}
 use Rattle.nmgc_mark.specs.{Seen.MarkerSeen, Marker.HasRoomToMark}
 use Rattle.nmgc_sweep.specs.Sweeping.{HasListedNothing, HasNoted, IsSweeping}
@@ -70,14 +70,19 @@ pub record IsPacedAtStop (quota : ℕ) (c : Cycle) (s : State) (seen : Collector
   pub scanned : HasScanned seen.marker ((s.number - c.from) * quota)
   pub not_done : c.from < s.number → seen.marker.queue ≢ []
 
+-- the marked objects are found: the cycle has more found objects than each lower number
+abbrev pub HasFound : Cycle → MarkerSeen → Type 0
+HasFound c marker = (count : ℕ) → count < marker.marked → MoreThan (IsFoundObject c) count
+
 -- the pace of marking after a round: earlier rounds scanned their quotas, and this round scanned its quota or left nothing.
--- If it isn't the first round, something waited at the stop before, and so something was scanned
+-- If it isn't the first round, something waited at the stop before, and so something was scanned. Marked objects are found
 pub record IsPacedAfterRound (quota : ℕ) (c : Cycle) (t : State) (seen : CollectorSeen) : Type 0 where
   pub scanned : HasScanned seen.marker ((t.number - c.from - 1) * quota + seen.work.scanned)
   pub most : seen.work.scanned ≤ quota
   pub some : c.from + 1 < t.number → 1 ≤ seen.work.scanned
   pub quota_or_done : (seen.work.scanned ≡ quota) ⊎ (seen.work.empty ≡ true)
   pub empty : (seen.work.empty ≡ true) ↔ (seen.marker.queue ≡ [])
+  pub found : HasFound c seen.marker
 
 -- the conditions of the cycle in progress on marker, sweeper and marks
 abbrev pub HoldsInCycle : (Cycle → Type 0) → Progress → State → CollectorSeen → List Place → Type 0

@@ -7,7 +7,8 @@ use Rattle.nmgc_segment.specs.{Invariant.IsMarked, Marks.epoch_of}
 use Rattle.nmgc_alloc.specs.{Numbered.Segments, Numbered.nth, AllocState.LiesIn}
 use Rattle.nmgc_heap_spec.specs.{Changes.AreEarlier, Places.Place, Roots.ListsWeaks}
 use Rattle.nmgc_round.specs.{Objects.earlier, View.Opening}
-use Rattle.nmgc_stop_spec.specs.Cycle.{interval_of, Cycle, IsDeadIn, IsKeptIn, IsKeptObject}
+use Rattle.nmgc_stop_spec.specs.Cycle.{Cycle, IsDeadIn, IsKeptIn}
+use Rattle.nmgc_stop_spec.specs.Kept.{interval_of, IsKeptObject}
 use Rattle.nmgc_run_spec.specs.{Closing.Closes, State.State, State.sweeping}
 use Rattle.nmgc_collector_laws.specs.{Marker.IsCoreOf, Blocks.AreOfBlocks}
 use Rattle.nmgc_mark.specs.{Seen.MarkerSeen, Stopped.IsReady}

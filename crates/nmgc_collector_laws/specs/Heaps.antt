@@ -7,7 +7,7 @@ use Rattle.nmgc_journal.specs.declared.report.MutatorEnd.{MutatorEnd}
 use Rattle.nmgc_round.specs.{View.Opening, View.Seen as View, Objects.earlier, Rule.now, Starting.CanOpen, Finishing.Leaves, Finishing.places_then}
 use Rattle.nmgc_mutator.specs.{declared.mutator.Mutator.Mutator, Ready.IsWhole, Does.remembered, Records.numbers}
 use Rattle.nmgc_collector_laws.specs.{Collector.AreAtRest, Collector.IsMarking, Seen.CollectorSeen, Seen.MutatorSeen, Seen.ends_of, RestMarking.IsAtRestMarking, RestMarking.opening_beside}
-use Rattle.nmgc_run_spec.specs.{Heap.HoldsAtStop, AfterRound.HoldsAfterRound, Heap.HasAllRegisters, Heap.registers_of, Heap.queues_of, Heap.serials_of, Heap.snapshots, State.Plan, State.State, State.marking, State.layout_of}
+use Rattle.nmgc_run_spec.specs.{Heap.HoldsAtStop, AfterRound.HoldsAfterRound, Terms.HasAllRegisters, Terms.registers_of, Terms.queues_of, Terms.serials_of, Heap.snapshots, State.Plan, State.State, State.marking, State.layout_of}
 use Rattle.nmgc_run_laws.specs.Sound.{IsSoundState, LieKnown}
 use Rattle.nmgc_stop_spec.specs.Cycle.{Cycle}
 use Rattle.nmgc_mark.specs.Stopped.{IsReady}

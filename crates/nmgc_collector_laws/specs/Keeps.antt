@@ -1,11 +1,12 @@
 -- A marking cycle as a running collector keeps it, over a round, its stop and a promotion; and its pace.
 use Rattle.std.specs.Prelude.{ℕ, ◌≡◌, ◌+◌, ◌<◌, ◌≤◌, ◌⊎◌, ◌↔◌, true, false, List, [], length, slice_get, Some}
+use Rattle.nmgc_world_spec.specs.History.{Row}
 use Rattle.nmgc_world_laws.specs.Reachable.{IsSound}
 use Rattle.nmgc_alloc.specs.AllocState.{AllocState}
 use Rattle.nmgc_heap_spec.specs.Moves.{Moved}
-use Rattle.nmgc_stop_spec.specs.{Stopped.Stopped, Cycle.interval_of, Cycle.Cycle}
+use Rattle.nmgc_stop_spec.specs.{Stopped.Stopped, Kept.interval_of, Cycle.Cycle}
 use Rattle.nmgc_mutator.specs.{declared.mutator.Mutator.Mutator, Does.remembered as remembered_of}
-use Rattle.nmgc_collector_laws.specs.{Collector.IsMarking, Collector.EachMutator, Collector.IsPacedAtStop, Collector.IsPacedAfterRound, Seen.CollectorSeen, Seen.MutatorSeen, Stays.HasPromoted, Stays.places_after}
+use Rattle.nmgc_collector_laws.specs.{Collector.IsMarking, Collector.EachMutator, Collector.HasFound, Collector.IsPacedAtStop, Collector.IsPacedAfterRound, Seen.CollectorSeen, Seen.MutatorSeen, Stays.HasPromoted, Stays.places_after, RestMarking.with_rows}
 use Rattle.nmgc_weak.specs.Queues.{weak_count}
 use Rattle.nmgc_mark.specs.Seen.{MarkerSeen}
 use Rattle.nmgc_run_spec.specs.State.{State}
@@ -38,12 +39,13 @@ PromotionKeepsMarking =
 abbrev pub Scans : MarkerSeen → MarkerSeen → ℕ → Type 0
 Scans old new count = new.marked + length old.queue ≡ old.marked + length new.queue + count
 
--- the law of the pace over a round, in which the marker did the work that it reports
+-- the law of the pace over a round with these rows, in which the marker did the work that it reports
 abbrev pub PaceAfterRound : Type 0
-PaceAfterRound = (quota : ℕ) (c : Cycle) (s t : State) (old new : CollectorSeen) → 1 ≤ quota → IsPacedAtStop quota c s old → c.from ≤ s.number →
-    t.number ≡ s.number + 1 → Scans old.marker new.marker new.work.scanned → old.marker.marked ≤ new.marker.marked → new.work.scanned ≤ quota →
-    (new.work.scanned ≡ quota) ⊎ (new.work.empty ≡ true) → ((new.work.empty ≡ true) ↔ (new.marker.queue ≡ []))
-    → IsPacedAfterRound quota c t new
+PaceAfterRound = (quota : ℕ) (c : Cycle) (rows : List Row) (s t : State) (old new : CollectorSeen) → 1 ≤ quota → IsPacedAtStop quota c s old →
+    c.from ≤ s.number → t.number ≡ s.number + 1 → Scans old.marker new.marker new.work.scanned → old.marker.marked ≤ new.marker.marked →
+    new.work.scanned ≤ quota → (new.work.scanned ≡ quota) ⊎ (new.work.empty ≡ true) → ((new.work.empty ≡ true) ↔ (new.marker.queue ≡ [])) →
+    HasFound (with_rows c rows) new.marker
+    → IsPacedAfterRound quota (with_rows c rows) t new
 
 -- the law of the pace over the stop after a round, if the cycle goes on: added entries wait behind the entries already queued
 abbrev pub PaceAtStop : Type 0

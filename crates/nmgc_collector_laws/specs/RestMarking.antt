@@ -6,7 +6,7 @@ use Rattle.nmgc_object.specs.declared.layout.Layout.{Layout}
 use Rattle.nmgc_snapshot_laws.specs.{declared.event.Entry.Entry, Machine.AreEmpty, State.State as Core}
 use Rattle.nmgc_alloc.specs.{Numbered.Segments, Segments.IsSegments}
 use Rattle.nmgc_heap_spec.specs.{Places.Place, Changes.AreEarlier, Represents.Represents, Represents.NoNode, Roots.RepresentsRoots}
-use Rattle.nmgc_stop_spec.specs.{Occupied.AreBlocks, Stopped.young_base, Cycle.interval_of, Cycle.Cycle}
+use Rattle.nmgc_stop_spec.specs.{Occupied.AreBlocks, Stopped.young_base, Kept.interval_of, Cycle.Cycle}
 use Rattle.nmgc_round.specs.{View.Opening, Objects.earlier, Starting.CanOpen}
 use Rattle.nmgc_mutator.specs.declared.mutator.Mutator.{Mutator}
 use Rattle.nmgc_collector_laws.specs.{Rest.hand_of, Rest.IsResting, Worked.registers_of, Worked.queues_of, Worked.serials_of, Marker.AreAt, Marker.IsCoreOf, Marker.IsUnread}

@@ -9,7 +9,8 @@ use Rattle.nmgc_alloc.specs.{Numbered.Segments, Segments.IsSegments}
 use Rattle.nmgc_heap_spec.specs.Places.{Place}
 use Rattle.nmgc_journal.specs.declared.report.MutatorEnd.{MutatorEnd}
 use Rattle.nmgc_round.specs.{Seating.collecting, View.Opening, View.whole}
-use Rattle.nmgc_stop_spec.specs.Cycle.{interval_of, Cycle}
+use Rattle.nmgc_stop_spec.specs.Cycle.{Cycle}
+use Rattle.nmgc_stop_spec.specs.Kept.{interval_of}
 use Rattle.nmgc_run_spec.specs.{Heap.HoldsAtStop, State.State}
 use Rattle.nmgc_collector_laws.specs.Marker.{IsCoreOf, IsTied}
 use Rattle.nmgc_mark.specs.{Seen.MarkerSeen, Tie.IsTied as IsTiedByPlaces, Work.marks_seen}

@@ -112,7 +112,7 @@ pub fn freed_places_can_be_dropped()
 /// passed since the snapshot, or the rounds before the last can't scan n objects. So at most (n - 1) / quota + 1 rounds have
 /// passed, with the quotient rounded down and a quota of at least 1. Let a round have passed in a sound cycle with a tied
 /// marker. If the marker has nothing left to scan, the rounds can scan all steady objects, and all that the snapshot's roots
-/// reach if no object was owed. Otherwise more objects are held than the rounds can scan.
+/// reach if no object was owed. Otherwise more objects are found than the rounds can scan.
 pub fn a_closing_is_in_bounds()
     ensures soon { ClosingIsSoon }
     ensures comes { ClosingComes }

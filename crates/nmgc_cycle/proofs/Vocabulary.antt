@@ -1,6 +1,6 @@
 -- All names of std, of the crates below and of this crate's definitions that the proofs use.
-pub use Rattle.nmgc_alloc.specs.{AllocState.AllocState, AllocState.Cells, Invariant.HasBlock, AllocState.IsIn, AllocState.LiesIn, AllocState.NoneIs, AllocState.SweepsEach, AllocState.SweepsSome, AllocState.all_empty, AllocState.all_retired, AllocState.cells, AllocState.cycle_begun, AllocState.name_in, AllocState.no_cells, AllocState.retired_state, CycleSteps.carried_over, CycleSteps.prepared, CycleSteps.retired, Numbered.Segments, Numbered.block_place, Numbered.is, Numbered.nth, Segments.HasNone, Segments.IsCurrent, Segments.IsMember, Segments.IsSegments, Segments.IsWaiting, Segments.all_free, Settled.AreSettled, Stands.StandsFor, laws.Cells.begun_names, laws.Cells.retired_cells, laws.Cells.retired_names, laws.Common.prepared_current, laws.Common.prepared_in, laws.Counts.none_sweeping, laws.Counts.sweeping_none, laws.Keeping.carried_stands, laws.Keeping.counts_stand, laws.Numbers.nth-map, laws.Numbers.nth_free, laws.OneState.first_cells, laws.OneState.first_stands, laws.Sweeping.none_to_sweep, laws.Turning.prepared_stands, laws.Turning.retired_stands}
-pub use Rattle.nmgc_stop_spec.specs.{Cycle.Cycle, Cycle.IsKeptIn, Cycle.IsKeptObject, Cycle.interval_of, Nurseries.AreEmpty, Nurseries.AreUsed, Nurseries.LieInOrder, Nurseries.nursery_at, Occupied.AreBlocks, Occupied.KeepsMarks, Placed.IsPlaceAtStop, Promoted.IsPromoted, Promoted.PlacesEach, Remembers.Remembers, Stopped.IsRoundOf, Stopped.IsSettled, Stopped.IsStopped, Stopped.Stopped, Stopped.young_base, laws.Blocks.is_block}
+pub use Rattle.nmgc_alloc.specs.{AllocState.AllocState, AllocState.Cells, Invariant.HasBlock, AllocState.IsIn, AllocState.LiesIn, AllocState.NoneIs, AllocState.SweepsEach, AllocState.SweepsSome, AllocState.all_empty, AllocState.all_retired, AllocState.cells, AllocState.cycle_begun, AllocState.name_in, AllocState.no_cells, AllocState.retired_state, CycleSteps.carried_over, Stands.prepared, CycleSteps.retired, Numbered.Segments, Numbered.block_place, Numbered.is, Numbered.nth, Segments.HasNone, Segments.IsCurrent, Segments.IsMember, Segments.IsSegments, Segments.IsWaiting, Segments.all_free, Settled.AreSettled, Stands.StandsFor, laws.Cells.begun_names, laws.Cells.retired_cells, laws.Cells.retired_names, laws.Common.prepared_current, laws.Common.prepared_in, laws.Counts.none_sweeping, laws.Counts.sweeping_none, laws.Keeping.carried_stands, laws.Keeping.counts_stand, laws.Numbers.nth-map, laws.Numbers.nth_free, laws.OneState.first_cells, laws.OneState.first_stands, laws.Sweeping.none_to_sweep, laws.Turning.prepared_stands, laws.Turning.retired_stands}
+pub use Rattle.nmgc_stop_spec.specs.{Cycle.Cycle, Cycle.IsKeptIn, Kept.IsKeptObject, Kept.interval_of, Nurseries.AreEmpty, Nurseries.AreUsed, Nurseries.LieInOrder, Nurseries.nursery_at, Occupied.AreBlocks, Occupied.KeepsMarks, Placed.IsPlaceAtStop, Promoted.IsPromoted, Promoted.PlacesEach, Remembers.Remembers, Stopped.IsRoundOf, Stopped.IsSettled, Stopped.IsStopped, Stopped.Stopped, Stopped.young_base, laws.Blocks.is_block}
 pub use Rattle.nmgc_collector_laws.specs.{Calls.AddIsMarking, Calls.SnapshotIsMarking, Closes.ClosingIsPaced, Closes.ClosingIsSoon, Collector.AreAtRest, Collector.AreNurseries, Collector.EachMutator, Collector.HasReserve, Collector.HoldsInCycle, Collector.IsAfterRound, Collector.IsAtStop, Collector.IsEmptied, Collector.IsMarking, Collector.IsPacedAfterRound, Collector.IsPacedAtStop, Collector.Matches, CycleCloses.HasClosed as IsClosedBy, Drops.DropsFreed, Drops.FreesUntracked, Drops.StopFreesUntracked, Drops.SweptHoldsAtStop, Heaps.AreShown, Heaps.HeapRests, Heaps.IsRoundFrom, Heaps.MarkedHolds, Joins.HaveJoinedList, Joins.HaveMoved, Joins.IsAliveAt, Joins.JoinersAreNew, Joins.JoiningLists, Joins.weak_header, Keeps.HasLeft, Keeps.PaceAtStop, Keeps.PaceBegins, Keeps.Scans, Keeps.ShowEntries, Marker.IsCoreOf, Owed.gathered, Prepares.StopBegins, Prepares.StopIsPrepared, Prepares.all_prepared, Resolves.ClosedCycleSweeps, Resolves.ClosedHolds, Resolves.FinalisersInHand as HaveJoinedInRun, Resolves.FinishMayResolve, Resolves.IsClosingOf, Resolves.IsStopOf, Resolves.ResolveCloses, Resolves.ShowsDeaths, Resolves.closed_state, Resolves.finished_on, Resolves.stop_opening, Rest.IsAtRest, Rest.IsResting, RestMarking.IsAtRestMarking as RestsBeside, RestMarking.IsMachineAtRest, RestMarking.opening_beside, RestMarking.with_rows, Seen.CollectorSeen, Seen.MutatorSeen, Seen.end_of, Seen.ends_of, Seen.finalised_in, Seen.nurseries_of, Seen.recorded_in, Seen.young_weaks_in, Sweeps.HasPlaced, Sweeps.MarkedWait, Sweeps.all_carried, Tie.CoreHasSnapshot, Tie.RoundBeginsTied, Turn.RoundIsHistory, Turn.RoundIsStopped, Turn.RoundListsFinalised, Turn.SlicesAreDone, Turn.SlicesAreGathered, Turn.stop_after, Worked.Done, Worked.HaveWorked, Worked.ListsFinalised, Worked.finalised_of, Worked.recorded_of}
 pub use Rattle.nmgc_collector_laws.specs.laws.Remembering.{round_is_remembered}
 pub use Rattle.nmgc_cycle.specs.{Bound.AreFew, Bound.AreFewAtStop, Bound.AreFewBeforeStop, Bound.HasMore, Bound.MayFollow, Bound.NoneIsDue, Bound.commands, Bound.cycle_most, Bound.heap_of, Bound.left_from, Bound.most_stops, Bound.no_cycle, Bound.one_cycle, Bound.phase_left, Cycles.AddsTo, Cycles.Begins, Cycles.Begins as BeginsThen, Cycles.CanAdd, Cycles.CanBegin, Cycles.CanClose, Cycles.CanHelp, Cycles.Closes, Cycles.Ends, Cycles.HasAdded, Cycles.HasClosed, Cycles.HasHelped, Cycles.HasScanned, Cycles.HasStarted, Cycles.HasStood, Cycles.HasSweptSome, Cycles.HasTaken, Cycles.IsClosed, Cycles.IsDue, Cycles.IsReadyToClose, Cycles.MarksOn, Cycles.StartsMarking, Cycles.next_epoch, Cycles.remembered_by, Cycles.row_of, Cycles.swept_beside, Cycles.upper_worked_on, Cycles.worked_on, Full.CanCloseNow, Full.CanSweepRest, Full.ClosesNow as ClosesNowBy, Full.HasDoneFull, Full.HasFinished, Full.HasSweptAll, Full.HasSweptRest, Full.IsFullDue as IsDueBy, Full.Proceeds as ProceedsThen, Full.SweepsRest as SweepsRestBy, Full.with_all_retired as filed_by, FullLaws.CloseNowReady, FullLaws.FilingLeads, FullLaws.FinishLeads, FullLaws.FinishingNowLeads, FullLaws.FullLeads, FullLaws.ProceedingLeads, FullLaws.StandsAtStop, FullLaws.SweepRestReady, FullLaws.SweepingRestLeads, Keeps.CanStop, Keeps.DidRound, Keeps.HasAnswered, Keeps.HasEnded, Keeps.HasStopped, Keeps.HasWorked, Keeps.IsAfterStop, Keeps.IsFresh, Keeps.IsOwn, Keeps.IsWellFormed, Keeps.StopsAfter, Keeps.Sweeps, Lined.AnyLine, Lined.HasForgotten, Lined.HasMetSender, Lined.HaveForgotten, Lined.HaveForgottenSoFar, Lined.HaveLines, Lined.HaveMet, Lined.IsLined, Lined.IsPaired, Lined.RememberInOrder, Listed.AreMovedInside, Listed.CanJoin, Listed.FinalisedAreListed, Listed.FinalisedLeft, Listed.FinalisersQueued, Listed.HasQueueRoom, Listed.HaveQueueRoom, Listed.HaveQueues, Listed.MovedJoined, Listed.count_made_by, Listed.is_alive_at, Listed.listed_move, Listed.moved_weaks, Listed.no_queue, Roots.HasRegisters, Roots.promoted_by, Roots.queues_in, RoundLaws.HasOpeningLaws, RoundLaws.HasRoundLaws, RoundLaws.HasSliceLaws, RoundLaws.MutatorsAreReady, Shown.HasNamesOnce, Shown.cycle_in, Shown.died, Shown.is_marking_in, Shown.marker_in, Shown.mutator_turns_of, Shown.phase_in, Shown.report_of, Shown.seen, Shown.seen_mutator, Shown.sweeper_in, Shown.report_cycles, Shown.report_row, Shown.turns_by, Shown.turns_in, Shown.turns_of, Shown.upper_turns_by, Shown.upper_turns_of, Shown.words_in, Shown.work_in, Steps.AddingLeads, Steps.BeginReady, Steps.BeginningLeads, Steps.CloseReady, Steps.ClosingLeads, Steps.EndLeads, Steps.FinishingLeads, Steps.HasOnlyEntries, Steps.IsPacedPromoted, Steps.IsPacedWithin, Steps.StandsAt, Steps.StandsForState, Steps.StandsPromoted, Steps.StandsWithin, Steps.StartingLeads, StopLaws.HasPromotionLaws, StopLaws.HasStopLaws, Stopping.CanList, Stopping.HasListed, Stopping.HasPromoted, Stopping.IsDone, Stopping.IsHeapFullAt, Stopping.SomeIsLeft, Stopping.StandsStopped, Stopping.ended_by, Stopping.moved_names, Stopping.moves_of, Stopping.young_weaks_of, Working.AreReserved, Working.CanAllWork, Working.CanWork, Working.CanWorkFrom, Working.DidSlice, Working.DidSlices, Working.HasInboxRoom, Working.HasLists, Working.HasWorkedOn, Working.HaveAllWorked, Working.HaveSliceRoom, Working.HaveTried, Working.HaveWorkedFrom, Working.OpensAt, Working.OpensIn, Working.asks_full_of, Working.asks_of, Working.cleared, Working.commands_in, Working.done_by, Working.in_blocks, Working.is_asking, Working.is_asking_full, Working.left_at, Working.mutator_of, Working.replies_of, Working.seat_of, Working.worker_of, Working.workers_of}
@@ -15,8 +15,8 @@ pub use Rattle.nmgc_mutator.specs.{Does.HasDone, Does.IsYield, Does.remembered, 
 pub use Rattle.nmgc_name_lists.specs.laws.Order.{ordered_once}
 pub use Rattle.nmgc_object.specs.{FinQueue.FinQueue, Places.InSegment, Layouts.IsLayout, Places.nursery_place, Places.reserve_count, Places.word_total, Size.block_size, Words.header_word, Words.name_word, declared.layout.Layout.Layout, declared.layout.Nursery.Nursery, declared.layout.TheConstants.FIRST_PLACE, declared.layout.TheConstants.SHARED_PLACE, declared.size.TheConstants.HEADER_WORDS, declared.size.TheConstants.MIN_BLOCK_WORDS, declared.size.TheConstants.NAME_OFFSET, declared.words.Address.Address, declared.words.Header.Header, declared.words.TheConstants.NIL_WORD, laws.Common.in_segment_low as segment_low}
 pub use Rattle.nmgc_round.specs.{Empty.empty_array, Empty.first_opening, Events.rows_in, Finishing.HasAll, Finishing.IsFinished, Finishing.Leaves, Finishing.places_then, Gate.passed, Marking.Marks, Marking.marks_after, Marking.marks_of, Marking.name_at, Marking.with_name, Naming.AllReply, Objects.earlier, Rule.now, Seat.IsAt, Seat.RoundSeat, Seat.opening_of, Seat.seen as seat_seen, Seating.all_together, Seating.alone, Seating.alones, Seating.collecting, Starting.CanOpen, View.DoneRow, View.FixedWord, View.Hand, View.Opening, View.Part, View.Scan, View.Seen, View.Seen as View, View.hand_of, View.no_hand, View.whole, declared.table.Round.Round, laws.Common.alones_count}
-pub use Rattle.nmgc_run_laws.specs.{Course.CyclesBeginInCourse, Course.IsInCourse, Course.IsLastBegun, Course.IsStateInCourse, Limits.HasGoodPlan, Places.BlocksArePlaces, Sound.AreSoundBlocks, Sound.IsAble, Sound.IsInCycle, Sound.IsOfSnapshot, Sound.IsRunnable, Sound.IsSoundRound, Sound.IsSoundState, Sound.LieKnown, Sound.WaitKnown, Statements.answered_count, laws.Closings.one_more, laws.Common.places_low, laws.Course.SameWait, laws.Course.all_placing_waits, laws.Course.none_retired as none_then, laws.Course.promotions_stay, laws.Course.rounds_stay, laws.Course.runs_are, laws.Crowding.few_in_each, laws.Crowding.lawful_are_of_runs, laws.Crowding.runnable_of, laws.Filing.begun_filed, laws.Filing.each_filed, laws.Filing.places_filed, laws.Filing.retired_filed, laws.Lefts.left_is_determined, laws.Lefts.round_left, laws.Lefts.slice_count, laws.Lefts.stop_left, laws.Limits.scripts_have_good_plans, laws.Places.block_used, laws.Places.blocks_at_stop, laws.Programs.slice_few, laws.Runs.opening_worked, laws.Runs.rounds_are_sound, laws.Runs.start_programs, laws.Runs.states_are_sound, laws.States.known_then, laws.Stops.young_fresh, laws.Sweeps.each_lie, laws.Sweeps.each_waits, laws.Sweeps.sweeps_keep, laws.Tracks.tracked_fewer, laws.Tracks.tracked_itself, laws.Tracks.tracked_known, laws.Turns.last_is_of_turn, laws.Turns.a_run_takes_a_further_round, laws.Turns.one_more_turn}
-pub use Rattle.nmgc_run_spec.specs.{Closing.ClosesNow, Closing.ClosesOrWaits, Closing.IsForcedSoon, Closing.IsSoon, Heap.FitBlocks, Heap.HasAllRegisters, Heap.HeapStandsFor, AfterRound.HoldsAfterRound, Heap.HoldsAtStop, Heap.queues_of, Heap.registers_of, Heap.serials_of, Heap.snapshots, Lawful.IsLawful, Round.IsRound, Round.SweepsBeside, Round.answered, Round.noted, Round.own_rows, Run.AreTurns, Run.IsRun, Run.IsTurn, Run.Run, Run.AreRowsOf, Run.Turn, Run.last_state, Run.state_after, AfterRound.with_turn, Slice.ends_slice, Slice.has_left, Slice.is_collect, Slice.is_full, Slice.is_next, AfterRound.program_of, Slice.rest_of, Slice.slice, Slice.slice_of, Slice.slices, Slice.some_asks, State.Plan, State.Progress, State.State, State.cycle_started, State.free_count, State.free_count as run_free, State.idle, State.is_idle, State.layout_of, State.marking, State.next_cycle, State.phase_of, State.plan_of, State.reserve_of, State.start, State.sweeping, State.waiting_count, Stop.BeginsOrWaits, Stop.DoesFullCycle, Stop.EndsOrWaits, Stop.Finishes, Stop.IsCensus, Stop.IsCycleDue, Stop.IsFullDue, Stop.IsStop, Stop.IsSwept, Stop.Proceeds, Stop.Promotes, Stop.SweepsRest, Stop.answer_of, Stop.is_done, Stop.is_short, Stop.stop_row, Stop.with_all_retired}
+pub use Rattle.nmgc_run_laws.specs.{Course.CyclesBeginInCourse, Course.IsInCourse, Course.IsLastBegun, Course.IsStateInCourse, Limits.HasGoodPlan, Places.BlocksArePlaces, Sound.AreSoundBlocks, Sound.IsAble, Sound.IsInCycle, Sound.IsOfSnapshot, Sound.IsRunnable, Sound.IsSoundRound, Sound.IsSoundState, Sound.LieKnown, Sound.WaitKnown, Statements.answered_count, laws.Closings.one_more, laws.Common.places_low, laws.Course.SameWait, laws.Course.all_placing_waits, laws.Course.none_retired as none_then, laws.Course.promotions_stay, laws.Course.rounds_stay, laws.Course.runs_are, laws.Crowding.few_in_each, laws.Crowding.lawful_are_of_runs, laws.Crowding.runnable_of, laws.Filing.begun_filed, laws.Filing.each_filed, laws.Filing.places_filed, laws.Filing.retired_filed, laws.Lefts.left_is_determined, laws.Lefts.round_left, laws.Lefts.slice_count, laws.Lefts.stop_left, laws.Limits.scripts_have_good_plans, laws.Places.block_used, laws.Places.blocks_at_stop, laws.Programs.slice_few, laws.Runs.opening_worked, laws.Runs.rounds_are_sound, laws.Runs.start_programs, laws.Runs.states_are_sound, laws.States.known_then, laws.Stops.young_fresh, laws.Sweeps.each_lie, laws.Sweeps.each_waits, laws.Sweeps.sweeps_keep, laws.Tracks.tracked_fewer, laws.Tracks.tracked_itself, laws.Tracks.tracked_known, laws.Turns.last_is_of_turn, laws.Turns.a_run_takes_a_further_round, laws.Turns.one_more_turn, laws.Ends.stop_is_lawful}
+pub use Rattle.nmgc_run_spec.specs.{Closing.ClosesNow, Closing.ClosesOrWaits, Closing.IsForcedSoon, Closing.IsSoon, End.FitBlocks, Terms.HasAllRegisters, Heap.HeapStandsFor, AfterRound.HoldsAfterRound, Heap.HoldsAtStop, Terms.queues_of, Terms.registers_of, Terms.serials_of, Heap.snapshots, Round.IsRound, Terms.SweepsBeside, Round.answered, Round.noted, Terms.own_rows, Run.AreTurns, Run.IsRun, Run.IsTurn, Run.Run, Run.AreRowsOf, Run.Turn, Run.last_state, Run.state_after, AfterRound.with_turn, Slice.ends_slice, Slice.has_left, Slice.is_collect, Slice.is_full, Terms.is_next, AfterRound.program_of, Slice.rest_of, Slice.slice, Slice.slice_of, Slice.slices, Terms.some_asks, State.Plan, State.Progress, State.State, State.cycle_started, State.free_count, State.free_count as run_free, State.idle, State.is_idle, State.layout_of, State.marking, State.next_cycle, State.phase_of, State.plan_of, Terms.reserve_of, State.start, State.sweeping, Terms.waiting_count, Stop.BeginsOrWaits, Stop.DoesFullCycle, Stop.EndsOrWaits, Stop.Finishes, Stop.IsCensus, Stop.IsCycleDue, Stop.IsFullDue, Stop.IsStop, Stop.IsSwept, Stop.Proceeds, Stop.Promotes, Terms.SweepsRest, Stop.answer_of, Terms.is_done, Stop.is_short, Stop.stop_row, Terms.with_all_retired, AtStop.IsLawfulAtStop}
 pub use Rattle.nmgc_script.specs.{Limits.IsInLimits, declared.script.Config.Config, declared.script.Script.Script, laws.Versions.segments_few, laws.Versions.threads_few, laws.Versions.total_few}
 pub use Rattle.nmgc_segment.specs.{Marks.IsEpoch, Marks.epoch_of, Segment.Segment, Segment.free_segment, Segment.mark_of, laws.Common.epoch_sound}
 pub use Rattle.nmgc_snapshot_laws.specs.State.{State as Core, opening, unmarked}

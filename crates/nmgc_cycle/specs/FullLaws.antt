@@ -5,6 +5,7 @@ use Rattle.nmgc_journal.specs.declared.report.CycleRow.{CycleRow}
 use Rattle.nmgc_run_spec.specs.Closing as run_closing
 use Rattle.nmgc_run_spec.specs.{Slice.has_left, State.State, State.plan_of}
 use Rattle.nmgc_run_spec.specs.Stop as run
+use Rattle.nmgc_run_spec.specs.Terms as run_terms
 use Rattle.nmgc_script.specs.{declared.script.Script.Script, Limits.IsInLimits}
 use Rattle.nmgc_cycle.specs.{declared.collector.Collector.Collector, Cycles.HasClosed, Roots.queues_in, Shown.report_cycles, Shown.words_in, Steps.StandsAt, Full.CanCloseNow, Full.ClosesNow, Full.CanSweepRest, Full.HasSweptRest, Full.HasFinished, Full.with_all_retired, Full.HasDoneFull, Full.Proceeds}
 use Rattle.nmgc_cycle.specs.declared.progress.Progress.TheVariants as doing
@@ -22,7 +23,7 @@ FinishingNowLeads = (script : Script) (old new : Collector) (s : State) → IsIn
 -- a sweep of all waiting segments in the code is a sweep of them in the run
 abbrev pub SweepingRestLeads : Type 0
 SweepingRestLeads = (script : Script) (old new : Collector) (s : State) → IsInLimits script → StandsAt script old s → HasSweptRest old new →
-    (b : AllocState) × run.SweepsRest s.progress s.allocation b × StandsAt script new (record s { allocation = b })
+    (b : AllocState) × run_terms.SweepsRest s.progress s.allocation b × StandsAt script new (record s { allocation = b })
 
 -- a cycle that the code finishes is finished in the run too, within its bound, and then no cycle is in progress
 abbrev pub FinishLeads : Type 0
@@ -33,7 +34,7 @@ FinishLeads = (script : Script) (old new : Collector) (s : State) → IsInLimits
 -- after all segments were filed, the collector represents the state of the run with all segments filed
 abbrev pub FilingLeads : Type 0
 FilingLeads = (script : Script) (c : Collector) (s : State) → IsInLimits script → StandsAt script c s → c.cycle.progress ≡ doing.Idle →
-    IsSegments (with_all_retired c).heap.segments → StandsAt script (with_all_retired c) (run.with_all_retired s)
+    IsSegments (with_all_retired c).heap.segments → StandsAt script (with_all_retired c) (run_terms.with_all_retired s)
 
 -- a full cycle in the code is a full cycle of the run, with its rows, and within its bound
 abbrev pub FullLeads : Type 0

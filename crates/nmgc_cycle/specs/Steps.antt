@@ -3,8 +3,8 @@
 -- Note [The steps of a stop] in stop.rt has the steps (`Full`, `FullLaws` the full cycle). After each step the collector
 -- represents a state of the run at that stop. Only the facts on the pace and on remembered entries differ.
 use Rattle.std.specs.Prelude.{ℕ, ◌≡◌, ◌+◌, ◌++◌, ◌≤◌, List, [], true, false}
-use Rattle.nmgc_stop_spec.specs.{Cycle.IsKeptObject, Cycle.Cycle, Nurseries.AreEmpty}
-use Rattle.nmgc_run_spec.specs.{Closing.Closes, Closing.ClosesOrWaits, Closing.MayClose, Closing.MayWait, Heap.HoldsAtStop, State.State, State.marking, State.cycle_started, State.plan_of, State.layout_of, Stop.EndsOrWaits, Stop.BeginsOrWaits}
+use Rattle.nmgc_stop_spec.specs.{Kept.IsKeptObject, Cycle.Cycle, Nurseries.AreEmpty}
+use Rattle.nmgc_run_spec.specs.{Closing.Closes, Closing.ClosesOrWaits, Terms.MayClose, Closing.MayWait, Heap.HoldsAtStop, State.State, State.marking, State.cycle_started, State.plan_of, State.layout_of, Stop.EndsOrWaits, Stop.BeginsOrWaits}
 use Rattle.nmgc_collector_laws.specs.{Collector.Matches, Collector.AreNurseries, Collector.EachMutator, Collector.IsEmptied, Collector.HoldsInCycle, Collector.IsPacedAtStop, Collector.IsPacedAfterRound, Seen.CollectorSeen, Seen.MutatorSeen, Seen.ends_of, Seen.nurseries_of}
 use Rattle.nmgc_run_laws.specs.{Course.IsStateInCourse, Sound.IsSoundState}
 use Rattle.nmgc_world_spec.specs.Listing.{Counts}

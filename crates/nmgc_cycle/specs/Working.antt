@@ -10,7 +10,7 @@ use Rattle.nmgc_mutator.specs.{declared.mutator.TheConstants.MOST_PUSHED, declar
 use Rattle.nmgc_mutator.specs.declared.mutator.SliceEnd.TheVariants as ending
 use Rattle.nmgc_updrem.specs.{Rings.HavePolled, Rings.Receiver, declared.block.TheConstants.BLOCK_ENTRIES}
 use Rattle.nmgc_script.specs.declared.script.Script.{Script}
-use Rattle.nmgc_run_spec.specs.{Run.Run, Run.last_state, AfterRound.program_of, Slice.slice_of, Slice.some_asks, Slice.is_collect, Slice.is_full, State.State, State.Progress, State.marking}
+use Rattle.nmgc_run_spec.specs.{Run.Run, Run.last_state, AfterRound.program_of, Slice.slice_of, Terms.some_asks, Slice.is_collect, Slice.is_full, State.State, State.Progress, State.marking}
 use Rattle.nmgc_cycle.specs.{declared.collector.Collector.Collector, declared.round.Lists.Lists, declared.worker.Worker.Worker, Cycles.HasHelped, Keeps.IsAfterStop, Shown.seen as collector_seen}
 
 -- the commands that a mutator has left of its program

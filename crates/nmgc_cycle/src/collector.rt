@@ -19,7 +19,7 @@ ghost use Rattle.nmgc_object.specs.{declared.layout.TheConstants.SHARED_PLACE, d
 ghost use Rattle.nmgc_round.specs.Empty.{IsEmptyHeap};
 ghost use Rattle.nmgc_mutator.specs.{declared.mutator.Mutator.Mutator as MutatorShown, Ready.IsNew};
 ghost use Rattle.nmgc_script.specs.{declared.script.Script.Script as ScriptSeen, Limits.FitsScript, Limits.IsInLimits};
-ghost use Rattle.nmgc_run_spec.specs.{State.plan_of, State.layout_of as planned_layout, Crowded.IsRunOf, Lawful.IsLawful};
+ghost use Rattle.nmgc_run_spec.specs.{State.plan_of, State.layout_of as planned_layout, Crowded.IsRunOf, AtStop.IsLawfulAtStop};
 ghost use Rattle.nmgc_collector_laws.specs.{Seen.end_of as reported_end, Heaps.seen_mutator};
 ghost use Rattle.nmgc_cycle.specs.{Shown.report_of, Shown.turns_of, Shown.upper_turns_of, Lined.IsLined, Keeps.IsFresh, Keeps.HasEnded};
 
@@ -335,7 +335,7 @@ impl Collector {
     pub fn into_report(self, end: End) -> Report
         requires { (script : ScriptSeen) × HasEnded script self end }
         ensures parts { result ≡ report_of self end }
-        ensures reported { (script : ScriptSeen) → HasEnded script self end → IsLawful script result }
+        ensures reported { (script : ScriptSeen) → HasEnded script self end → IsLawfulAtStop (plan_of script) result }
     {
         let Collector {
             alloc: _,

@@ -4,10 +4,10 @@
 //! learns that no job is left. All jobs are pushed first. Then each worker takes jobs until it finds none, in a thread of its
 //! own if the system can start it. After all have returned, their passes are joined to the first pass, which has every part
 //! again. With this pass the last worker takes jobs until it finds none. Only then is it known that all jobs were taken.
-ghost use Rattle.std.specs.Prelude.{true, ◌≡◌, ◌+◌, ◌-◌, ◌<◌, ◌≤◌, [], ◌++◌, length, vec_len, vec_capacity, IfOk, OnOk, All};
+ghost use Rattle.std.specs.Prelude.{◌≡◌, ◌+◌, ◌-◌, ◌<◌, ◌≤◌, [], ◌++◌, length, vec_len, vec_capacity, IfOk, OnOk, All};
 ghost use Rattle.std.specs.Thread.{IsSync};
 ghost use Rattle.crossbeam_queue.specs.SegTies.{IsSegPassOf};
-ghost use Rattle.nmgc_fin.specs.{declared.run.TheConstants.MOST_WORKERS, Handles.AreNumbered, Handles.Handles, Handles.joined, Rule.hand, Rule.most_parts, Worker.IsWorker, Worker.AreWorkers, Worker.HaveEnded, Worker.lists_of};
+ghost use Rattle.nmgc_fin.specs.{declared.run.TheConstants.MOST_WORKERS, Handles.AreNumbered, Handles.Handles, Handles.joined, Rule.hand, Rule.most_parts, Worker.IsWorker, Worker.AreWorkers, Worker.HasEnded, Worker.HaveEnded, Worker.lists_of};
 
 use crate::hand::Hand;
 use crate::job::Job;
@@ -16,6 +16,7 @@ use crate::worker::{JobPass, JobQueue, Worker};
 use nmgc_lists::{List, NoMemory};
 use nmgc_round::Gate;
 use std::alloc::Global;
+use std::mem;
 use std::sync::Wait;
 use std::thread;
 use std::thread::Threads;
@@ -114,12 +115,7 @@ fn hire(
     let mut crew = Vec::with_capacity(alloc, workers as usize)?;
     for _number in 0..workers {
         let done = Vec::with_capacity(alloc, jobs.len())?;
-        crew.push_reserved(Worker {
-            pass: queue.another::<Part>(pass),
-            done,
-            turns: 0,
-            has_ended: false,
-        });
+        crew.push_reserved(Worker::new(queue.another::<Part>(pass), done));
     }
     Ok(crew)
 }
@@ -144,7 +140,7 @@ fn work_all<R: Threads + Wait + Sync, G: Gate>(
         MOST_WORKERS as usize,
         &|number, worker: &mut Worker|
             requires { (number < MOST_WORKERS) × IsWorker queue.now jobs.now worker.now }
-            ensures { IsWorker queue.entry.now jobs.entry.now worker.exit.now × (worker.exit.now.has_ended ≡ true) }
+            ensures { IsWorker queue.entry.now jobs.entry.now worker.exit.now × HasEnded worker.exit.now }
         { work_one(rt, queue, jobs, number as u8, worker, gate) },
     );
 }
@@ -159,7 +155,7 @@ fn work_one<R: Wait, G: Gate>(
     gate: &G,
 )
     requires { IsWorker queue.now jobs.now worker.old }
-    ensures { IsWorker queue.now jobs.now worker.new × (worker.new.has_ended ≡ true) }
+    ensures { IsWorker queue.now jobs.now worker.new × HasEnded worker.new }
 {
     let _ = jobs;
     worker.work(rt, queue, number, gate);
@@ -190,26 +186,11 @@ fn gather<R: Wait, G: Gate>(
     };
     let number = crew.len() as u8;
     let mut by = join_all(alloc, queue, &mut pass, jobs, crew)?;
-    let Worker {
-        pass: theirs,
-        done,
-        turns,
-        has_ended,
-    } = last;
-    queue.absorb::<Both>(&mut pass, theirs);
-    let mut last = Worker {
-        pass,
-        done,
-        turns,
-        has_ended,
-    };
+    let mut last = last;
+    let theirs = mem::replace(&mut last.pass, pass);
+    queue.absorb::<Both>(&mut last.pass, theirs);
     last.work(rt, queue, number, gate);
-    let Worker {
-        pass: _,
-        done,
-        turns: _,
-        has_ended: _,
-    } = last;
+    let (_, done) = last.into_parts();
     by.push(List::from_vec(done)?)?;
     Ok(Handled { by })
 }
@@ -233,12 +214,7 @@ fn join_all(
     let _ = jobs;
     let mut by = List::new(alloc);
     for worker in crew {
-        let Worker {
-            pass: theirs,
-            done,
-            turns: _,
-            has_ended: _,
-        } = worker;
+        let (theirs, done) = worker.into_parts();
         queue.absorb::<Both>(pass, theirs);
         by.push(List::from_vec(done)?)?;
     }

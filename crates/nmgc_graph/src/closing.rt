@@ -4,7 +4,7 @@
 //! them dies, in the order of names. Its finaliser, unless nil, joins the end of the finaliser queue of the weak pointer's
 //! maker. So two runs that find the same dead weak pointers hand out the same finalisers in the same order.
 ghost use Rattle.std.specs.Prelude.{◌≡◌, ◌<◌, All, OnOk, OnErr, length, slice_get, Some, None};
-ghost use Rattle.nmgc_world_spec.specs.{Reach.queued, Step.with_nth};
+ghost use Rattle.nmgc_world_spec.specs.{Reach.queued, Pieces.with_nth};
 ghost use Rattle.nmgc_graph.specs.Closing.{finaliser_of};
 
 use crate::World;

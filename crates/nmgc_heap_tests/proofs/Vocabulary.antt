@@ -17,7 +17,7 @@ pub use Rattle.nmgc_snapshot_laws.specs.{State.entry_of, State.names_of, declare
 pub use Rattle.nmgc_sweep.specs.{NameTable.HaveEntries, Sweeper.AreLeft}
 pub use Rattle.nmgc_weak.specs.{Rows.leaves_at, declared.weaks.OldWeak.OldWeak}
 pub use Rattle.nmgc_world_laws.specs.laws.{NewWorlds.new_is_world, WorldSteps.step_keeps_world}
-pub use Rattle.nmgc_world_spec.specs.{Command.Fits, Command.HasRegisters, Known.IsOperand, Known.CanApply, Step.step, Wide.IsWide, Known.IsWorld, World.World, World.new_world, World.node_of, World.serial_of, World.state_of, declared.command.Command.Command, declared.command.Command.TheVariants.Collect, declared.command.Command.TheVariants.Get, declared.command.Command.TheVariants.Nil, declared.command.Command.TheVariants.Num, declared.command.Command.TheVariants.Set, declared.command.Command.TheVariants.Yield, declared.command.Operand.TheVariants.Register, declared.command.Operand.TheVariants.Shared, declared.command.Reply.TheVariants.Fine, declared.node.Kind.Kind, declared.node.Kind.TheVariants.Arr, declared.node.Kind.TheVariants.Con, declared.node.Kind.TheVariants.Stack, declared.node.Kind.TheVariants.Thunk, declared.node.Kind.TheVariants.Var, declared.node.Kind.TheVariants.Weak, declared.node.Node.Node, declared.value.Name.Name, declared.value.Value.TheVariants.Number, declared.value.Value.TheVariants.Ref}
+pub use Rattle.nmgc_world_spec.specs.{Command.Fits, Known.HasRegisters, Known.IsOperand, Known.CanApply, Step.step, Wide.IsWide, Known.IsWorld, World.World, World.new_world, World.node_of, World.serial_of, World.state_of, declared.command.Command.Command, declared.command.Command.TheVariants.Collect, declared.command.Command.TheVariants.Get, declared.command.Command.TheVariants.Nil, declared.command.Command.TheVariants.Num, declared.command.Command.TheVariants.Set, declared.command.Command.TheVariants.Yield, declared.command.Operand.TheVariants.Register, declared.command.Operand.TheVariants.Shared, declared.command.Reply.TheVariants.Fine, declared.node.Kind.Kind, declared.node.Kind.TheVariants.Arr, declared.node.Kind.TheVariants.Con, declared.node.Kind.TheVariants.Stack, declared.node.Kind.TheVariants.Thunk, declared.node.Kind.TheVariants.Var, declared.node.Kind.TheVariants.Weak, declared.node.Node.Node, declared.value.Name.Name, declared.value.Value.TheVariants.Number, declared.value.Value.TheVariants.Ref}
 pub use Rattle.std.proofs.{Common.All, Common.Bool, Common.List, Common.Some, Common.[], Common.ap, Common.append-nil, Common.arith, Common.below_more, Common.drop, Common.eqb, Common.false, Common.get_or, Common.inl, Common.inr, Common.length, Common.length-append, Common.length-set, Common.lit<, Common.lit≤, Common.map, Common.refl, Common.replicate, Common.rules, Common.set, Common.slice_index, Common.subst, Common.suc, Common.sym, Common.take, Common.true, Common.zero, Common.ℕ, Common.◌*◌, Common.◌++◌, Common.◌+◌, Common.◌-◌, Common.◌<◌, Common.◌∙◌, Common.◌∷◌, Common.◌≡◌, Common.◌≢◌, Common.◌≤◌, Common.◌⊎◌, Math.ListN.get_or-eq_default, Math.Nat.min-le_left, Math.Nat.mul-le-mul_right}
 pub use Rattle.std.proofs.lemmas.{Bool.cases_eq, Bool.cases_lt, Bool.cases_order, List.get_or-replicate, List.get_or_default, List.length-replicate, List.map-append, List.Elements.All-cons, List.Elements.All-from_recursion, List.Elements.All-get_or, List.Elements.All-nil}
 pub use Rattle.std.specs.{List.flat_map, List.refill, Prelude.Contains, Prelude.min, Prelude.not, Prelude.slice_get, Prelude.slice_index_or}

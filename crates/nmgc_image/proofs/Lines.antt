@@ -5,7 +5,7 @@ use Rattle.nmgc_limits.specs.declared.mutators.TheConstants.{REGISTERS, MAKERS, 
 use Rattle.nmgc_world_spec.specs.{declared.value.Name.Name, declared.value.Value.Value, declared.value.Value.TheVariants.Nil, declared.value.Value.TheVariants.Number, declared.value.Value.TheVariants.Ref, declared.node.Node.Node, declared.node.Node.TheVariants.Con, declared.node.Node.TheVariants.Var, declared.node.Node.TheVariants.Arr, declared.node.Node.TheVariants.Thunk, declared.node.Node.TheVariants.Weak, declared.node.Node.TheVariants.Stack, Change.is_same_name, Step.shared_name, Reach.IsBefore, Reach.IsInOrder, World.held_by, World.IsShared, laws.Orders.same_name}
 use Rattle.nmgc_journal.specs.{Text.IsValue, Reading.number_at, Reading.value_at, laws.Reading.bind_some, laws.Reading.guard_some, laws.Reading.number_takes, laws.Reading.value_reads}
 use Rattle.nmgc_lists.specs.{laws.Truths.chosen, laws.Truths.unmarked, laws.Items.all_front, laws.Items.all_back}
-use Rattle.nmgc_image.specs.{declared.image.Held.Held, declared.image.ImageMutator.ImageMutator, declared.image.Entry.Entry, declared.image.Image.Image, declared.reader.Reader.Reader, Image.AreInOrder, Image.IsHeld, Image.IsMutator, Image.IsOwned, Image.IsEntry, Image.names_of, Image.values_of, Image.IsOrderly, Spelling.first_words, Spelling.mutator_words, Spelling.register_words, Spelling.queue_words, Spelling.entry_words, Spelling.own_lines, Spelling.mutator_lines, Spelling.last_words, Spelling.image_lines, Reading.is_declared, Reading.begun, Reading.is_open, Reading.is_full, Reading.first_at, Reading.new_own, Reading.mutator_at, Reading.is_above, Reading.is_nil, Reading.with_register, Reading.with_entry, Reading.register_at, Reading.queue_at, Reading.is_before, Reading.is_after, Reading.is_shared, Reading.is_below, Reading.is_owned, Reading.can_follow, Reading.entry_at, Reading.next_at, Reading.end_at, Reading.line_at, Reading.start, Reading.image_of, Reading.run}
+use Rattle.nmgc_image.specs.{declared.image.Held.Held, declared.image.ImageMutator.ImageMutator, declared.image.Entry.Entry, declared.image.Image.Image, declared.reader.Reader.Reader, Image.AreInOrder, Image.IsHeld, Image.IsMutator, Image.IsOwned, Image.IsEntry, Image.names_of, Image.values_of, Image.IsOrderly, Printing.first_words, Spelling.mutator_words, Spelling.register_words, Spelling.queue_words, Spelling.entry_words, Printing.own_lines, Spelling.mutator_lines, Printing.last_words, Spelling.image_lines, Reading.is_declared, Reading.begun, Reading.is_open, Reading.is_full, Reading.first_at, Reading.new_own, Reading.mutator_at, Reading.is_above, Reading.is_nil, Reading.with_register, Reading.with_entry, Reading.register_at, Reading.queue_at, Reading.is_before, Reading.is_after, Reading.is_shared, Reading.is_below, Reading.is_owned, Reading.can_follow, Reading.entry_at, Reading.next_at, Reading.end_at, Reading.line_at, Reading.start, Reading.image_of, Reading.run}
 use Rattle.nmgc_image.proofs.{NodeLaws.entry_takes, Machine.IsIn}
 
 -- every mutator has begun

@@ -2,7 +2,7 @@
 use Rattle.std.proofs.{Common.ℕ, Common.◌≡◌, Common.◌≢◌, Common.◌⊎◌, Common.◌↔◌, Common.◌+◌, Common.◌*◌, Common.◌<◌, Common.◌≤◌, Common.zero, Common.suc, Common.List, Common.[], Common.◌∷◌, Common.◌++◌, Common.length, Common.map, Common.slice_index, Common.arith, Common.refl, Common.sym, Common.ap, Common.subst, Common.◌∙◌, Common.Some, Common.inl, Common.inr, Math.ListN.get_or-eq_default, lemmas.Bool.cases_lt, lemmas.Option.slice_get_within, lemmas.List.length-map, lemmas.List.get_or_append_left, lemmas.List.get_or-append-add, lemmas.List.Elements.All-contains, lemmas.List.Elements.All-tail, lemmas.List.Elements.Contains-append_left, lemmas.List.Elements.Contains-append_right, lemmas.List.Elements.Contains-append_cases}
 use Rattle.std.specs.Prelude.{Contains, All, slice_get, flat_map}
 use Rattle.nmgc_limits.specs.declared.mutators.TheConstants.{REGISTERS, SHARED_MAKER}
-use Rattle.nmgc_world_spec.specs.{declared.value.Name.Name, declared.value.Value.Value, declared.node.Parts.Parts, declared.node.Node.Node, declared.node.Node.TheVariants.Weak, declared.mutator_state.MutatorState.MutatorState, Step.shared_name, World.World, Known.IsNodeOf, Known.IsSized, World.IsShared, World.node_of, World.state_of, World.no_mutator, World.held_by, Reach.start, Reach.field, Reach.IsRoot, Reach.IsAlive, Reach.IsAliveWeak, Wide.IsWide, Wide.IsWideRoot, Wide.IsOfWeak}
+use Rattle.nmgc_world_spec.specs.{declared.value.Name.Name, declared.value.Value.Value, declared.node.Parts.Parts, declared.node.Node.Node, declared.node.Node.TheVariants.Weak, declared.mutator_state.MutatorState.MutatorState, Step.shared_name, World.World, Known.IsNodeOf, Known.IsSized, World.IsShared, World.node_of, World.state_of, World.no_mutator, World.held_by, Reach.start, Reach.field, Reach.IsRoot, Reach.IsAlive, Reach.IsAliveWeak, Wide.IsWide, Pieces.IsWideRoot, Wide.IsOfWeak}
 use Rattle.nmgc_world_spec.specs.declared.value.Value.TheVariants as value
 use Rattle.nmgc_lists.specs.laws.Items.{at_some, is_some_of, is_some_get, contains_at, place_of, nothing_in, item_map}
 use Rattle.nmgc_world_laws.specs.laws.Reached.{wide_known}

@@ -1,18 +1,13 @@
 -- Which image shows a world: the registers and queues of its mutators, and the objects of its wide reach.
-use Rattle.std.specs.Prelude.{◌≡◌, ◌≢◌, ℕ, List, [], length, slice_get, Some, None, Contains}
-use Rattle.nmgc_world_spec.specs.{declared.value.Name.Name, declared.value.Value.Value, declared.node.Node.Node, declared.node.Node.TheVariants.Con, declared.node.Node.TheVariants.Var, declared.node.Node.TheVariants.Arr, declared.node.Node.TheVariants.Thunk, declared.node.Node.TheVariants.Weak, declared.node.Node.TheVariants.Stack, Reach.Lists, World.World, World.state_of, World.serial_of, World.node_of, Wide.IsWide}
+use Rattle.std.specs.Prelude.{◌≡◌, ◌≢◌, ℕ, List, [], length, slice_get, Some, Contains}
+use Rattle.nmgc_world_spec.specs.{declared.value.Name.Name, declared.value.Value.Value, declared.node.Node.Node, declared.node.Node.TheVariants.Thunk, Reach.Lists, World.World, World.state_of, World.serial_of, World.node_of, Wide.IsWide}
 use Rattle.nmgc_world_spec.specs.declared.value.Value.TheVariants as value
 use Rattle.nmgc_image.specs.{declared.image.Held.Held, declared.image.ImageMutator.ImageMutator, declared.image.Image.Image, Image.AreInOrder, Image.names_of, Image.HasNode}
 
 -- a node as it is shown: the node itself, but a thunk with a result has no free variables any more
 abbrev pub shown : Node → Node
-shown (Con tag values) = Con tag values
-shown (Var v) = Var v
-shown (Arr values) = Arr values
-shown (Thunk free None) = Thunk free None
 shown (Thunk free (Some result)) = Thunk [] (Some result)
-shown (Weak parts) = Weak parts
-shown (Stack size values) = Stack size values
+shown node = node
 
 -- the registers that aren't nil, by their numbers
 pub record ListsHeld (registers : List Value) (held : List Held) : Type 0 where
@@ -26,8 +21,7 @@ pub record ShowsMutator (w : World) (m : ℕ) (own : ImageMutator) : Type 0 wher
   pub registers : ListsHeld (state_of w m).registers own.registers
   pub queue : own.queue ≡ (state_of w m).queue
 
--- an image shows a world: it has the world's serials and queues, and the world's registers that aren't nil. Its names are
--- exactly the wide reach, and its nodes are the world's, except that a thunk with a result has no free variables.
+-- an image shows a world: its mutators, and exactly the names of the wide reach, with their nodes as they are shown
 pub record Shows (w : World) (image : Image) : Type 0 where
   pub count : length image.mutators ≡ length w.mutators
   pub mutators : (m : ℕ) (own : ImageMutator) → slice_get image.mutators m ≡ Some own → ShowsMutator w m own

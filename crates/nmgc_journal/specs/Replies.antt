@@ -11,10 +11,7 @@ plain_replies = Fine ∷ Yes ∷ No ∷ Updated ∷ Already ∷ NoPointer ∷ No
 
 -- the name that a code represents: the code is 256 times the serial, plus the maker
 abbrev pub name_in : ℕ → Name
-name_in code = record {
-  maker = code % 2 ^ 8;
-  serial = (code / 2 ^ 8) % 2 ^ 32;
-}
+name_in code = record { maker = code % 2 ^ 8; serial = (code / 2 ^ 8) % 2 ^ 32 }
 
 -- the reply of a word: 2n + 1 is the number n, 4c + 2 the object of code c, 4p the plain reply at position p, or else `Fine`
 abbrev pub reply_in : ℕ → Reply

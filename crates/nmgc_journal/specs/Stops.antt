@@ -1,6 +1,6 @@
 -- The cycles that ended at a stop, and the cycles left after it.
 use Rattle.std.specs.Prelude.{◌≡◌, ℕ, ◌+◌, ◌<◌, ◌≤◌, List, [], ◌∷◌, length, drop}
-use Rattle.nmgc_journal.specs.{declared.report.CycleRow.CycleRow, Text.ended_at}
+use Rattle.nmgc_journal.specs.{declared.report.CycleRow.CycleRow, Printing.ended_at}
 
 -- cycles in order: the first ended at stop n or later, and each further cycle no earlier than the cycle before it. A report's
 -- text doesn't require this order. The code tests for it, since cycles in order take less time.

@@ -35,18 +35,11 @@ reply_text Nothing = codes "none"
 reply_text StackFull = codes "stackfull"
 reply_text StackEmpty = codes "stackempty"
 
--- the line of a mutator's reply: the mutator, a space and the reply
-abbrev pub reply_line : ℕ → Reply → List ℕ
-reply_line m reply = decimal m ++ 32 ∷ reply_text reply ++ 10 ∷ []
-
--- the reply lines of the mutators from m on, with one list of replies for each mutator
+-- the reply lines of the mutators from m on, with one list of replies for each: a line has the mutator, a space and the reply
 abbrev pub replies_text : ℕ → List (List Reply) → List ℕ
 replies_text m [] = []
-replies_text m (replies ∷ others) = flat_map (reply_line m) replies ++ replies_text (m + 1) others
-
--- the lines of a round: its number, and its replies
-abbrev pub round_text : ℕ → RoundRows → List ℕ
-round_text n rows = codes "round " ++ decimal n ++ 10 ∷ replies_text 0 rows.replies
+replies_text m (replies ∷ others) = flat_map (λ (reply : Reply). decimal m ++ 32 ∷ reply_text reply ++ 10 ∷ []) replies ++
+    replies_text (m + 1) others
 
 -- the token of a phase, with the space before it
 abbrev pub phase_text : Phase → List ℕ
@@ -59,42 +52,27 @@ abbrev pub stop_line : StopRow → List ℕ
 stop_line s = codes "stop " ++ decimal s.number ++ phase_text s.phase ++ codes " free " ++ decimal s.free ++ codes " filled " ++ decimal s.filled ++
     codes " sweep " ++ decimal s.sweep ++ codes " promoted " ++ decimal s.promoted ++ 10 ∷ []
 
--- the start of a cycle's line: its number, and the stops of its snapshot and its closing
-abbrev pub cycle_stops : CycleRow → List ℕ
-cycle_stops c = codes "cycle " ++ decimal c.number ++ codes " from " ++ decimal c.from ++ codes " closed " ++ decimal c.closed
-
--- the counts of the segments that a cycle swept, of their blocks in use, and of the blocks that it freed
-abbrev pub cycle_swept : CycleRow → List ℕ
-cycle_swept c = codes " swept " ++ decimal (length c.swept) ++ codes " had " ++ decimal (length c.had) ++ codes " freed " ++ decimal (length c.freed)
-
--- the counts of the blocks that a cycle kept, and of the weak pointers that died
-abbrev pub cycle_kept : CycleRow → List ℕ
-cycle_kept c = codes " kept " ++ decimal c.kept ++ codes " dead " ++ decimal (length c.dead) ++ 10 ∷ []
-
--- the line of a cycle
-abbrev pub cycle_line : CycleRow → List ℕ
-cycle_line c = cycle_stops c ++ cycle_swept c ++ cycle_kept c
-
 -- a line of a token and a name
 abbrev pub name_line : List ℕ → Name → List ℕ
 name_line word name = word ++ name_text name ++ 10 ∷ []
 
--- the lines of a cycle: its own line, the weak pointers that died, and the names that were freed
+-- the lines of a cycle: its own line with its stops and counts, the weak pointers that died, and the names that were freed
 abbrev pub cycle_text : CycleRow → List ℕ
-cycle_text c = cycle_line c ++ flat_map (name_line (codes "dead ")) c.dead ++ flat_map (name_line (codes "freed ")) c.freed
-
--- the cycles of the report that ended at this stop
-abbrev pub ended_at : ℕ → List CycleRow → List CycleRow
-ended_at n cycles = filter (λ (cycle : CycleRow). cycle.ended == n) cycles
+cycle_text c = codes "cycle " ++ decimal c.number ++ codes " from " ++ decimal c.from ++ codes " closed " ++ decimal c.closed ++
+    (codes " swept " ++ decimal (length c.swept) ++ codes " had " ++ decimal (length c.had) ++ codes " freed " ++ decimal (length c.freed)) ++
+    (codes " kept " ++ decimal c.kept ++ codes " dead " ++ decimal (length c.dead) ++ 10 ∷ []) ++
+    flat_map (name_line (codes "dead ")) c.dead ++ flat_map (name_line (codes "freed ")) c.freed
 
 -- the lines of stop n: its own line, and the lines of the cycles that ended at it; no lines if the stop has no row
 abbrev pub stop_at : List StopRow → List CycleRow → ℕ → List ℕ
-stop_at stops cycles n = option_map_or (λ stop. stop_line stop ++ flat_map cycle_text (ended_at n cycles)) (slice_get stops n) []
+stop_at stops cycles n =
+    option_map_or (λ stop. stop_line stop ++ flat_map cycle_text (filter (λ (cycle : CycleRow). cycle.ended == n) cycles)) (slice_get stops n) []
 
--- the lines of rounds, numbered from this number on, each followed by its stop
+-- the lines of rounds from number n on: each its number, its replies, and its stop
 abbrev pub rounds_text : List StopRow → List CycleRow → ℕ → List RoundRows → List ℕ
 rounds_text stops cycles n [] = []
-rounds_text stops cycles n (rows ∷ others) = round_text n rows ++ stop_at stops cycles n ++ rounds_text stops cycles (n + 1) others
+rounds_text stops cycles n (rows ∷ others) = codes "round " ++ decimal n ++ 10 ∷ replies_text 0 rows.replies ++ stop_at stops cycles n ++
+    rounds_text stops cycles (n + 1) others
 
 -- the last line of a report; if the heap was full, with the free segments, which were too few, and the reserve
 abbrev pub end_text : End → List ℕ

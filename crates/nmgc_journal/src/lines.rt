@@ -6,7 +6,7 @@
 //! its numbers have 8 and 32 bits, so the longest line has a mutator and a number of 20 digits each.
 ghost use Rattle.std.specs.Prelude.{◌≡◌, ◌+◌, ◌<◌, ◌≤◌, [], ◌∷◌, ◌++◌, decimal, drop, length, OnOk};
 ghost use Rattle.nmgc_world_spec.specs.{declared.command.Reply.TheVariants.Given, declared.value.Value.TheVariants.Number, declared.value.Value.TheVariants.Ref};
-ghost use Rattle.nmgc_journal.specs.{Text.reply_line, Text.reply_text, Reading.HasWord};
+ghost use Rattle.nmgc_journal.specs.{Printing.reply_line, Text.reply_text, Reading.HasWord};
 
 use itoa::write_digits;
 use nmgc_io::push_number;

@@ -1,12 +1,12 @@
 //! The lines of a stop, and of the cycles that ended there.
 //!
-//! The format says "the cycles that ended at this stop", whatever their order (`specs/Text.antt`, `ended_at`), and
+//! The format says "the cycles that ended at this stop", whatever their order (`specs/Text.antt`, `stop_at`), and
 //! `push_stop_at` looks through all of them. If the cycles are in the order of the stops at which they ended, the cycles of a
 //! stop are the first that no earlier stop has taken. So `push_next_stop` looks only at the first of the cycles left. Easy to
 //! get wrong: a stop without a row has to take its cycles too. Otherwise the next stop begins at cycles that ended before.
 ghost use Rattle.std.specs.Prelude.{◌≡◌, ◌≢◌, ◌↔◌, ℕ, ◌+◌, ◌<◌, ◌≤◌, ◌++◌, ◌==◌, length, take, drop, IsTrue, OnOk, IfOk};
 ghost use Rattle.std.specs.List.{flat_map, take_while};
-ghost use Rattle.nmgc_journal.specs.{Text.phase_text, Text.stop_line, Printing.stop_counts, Text.cycle_line, Text.cycle_stops, Text.cycle_swept, Text.cycle_kept, Text.cycle_text, Text.name_line, Text.stop_at, Text.ended_at};
+ghost use Rattle.nmgc_journal.specs.{Text.phase_text, Text.stop_line, Printing.stop_counts, Printing.cycle_line, Printing.cycle_stops, Printing.cycle_swept, Printing.cycle_kept, Text.cycle_text, Text.name_line, Text.stop_at, Printing.ended_at};
 ghost use Rattle.nmgc_journal.specs.{Stops.AreEndedFrom, Stops.IsRestAfter, Spans.span_lines};
 
 use crate::tokens::{push_count, push_name, push_word};

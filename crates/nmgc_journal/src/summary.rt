@@ -6,7 +6,8 @@
 //! report needn't come from a run. Easy to get wrong: the number of kept objects is the last cycle's alone, since each cycle
 //! keeps a surviving object again.
 ghost use Rattle.std.specs.Prelude.{◌≡◌, ◌<◌, ◌^◌, ◌++◌, codes, OnOk, IfOk};
-ghost use Rattle.nmgc_journal.specs.Summary.{reply_count, command_count, made_count, promoted_count, freed_count, kept_count, count_line, run_lines, object_lines, summary_text};
+ghost use Rattle.nmgc_journal.specs.Summary.{kept_count, count_line, summary_text};
+ghost use Rattle.nmgc_journal.specs.Printing.{reply_count, command_count, made_count, promoted_count, freed_count, run_lines, object_lines};
 
 use crate::text::push_end;
 use crate::tokens::push_word;

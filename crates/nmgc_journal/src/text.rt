@@ -9,7 +9,7 @@
 ghost use Rattle.std.specs.Prelude.{◌≡◌, ◌+◌, ◌<◌, ◌≤◌, ◌^◌, ◌++◌, length, codes, OnOk, IfOk};
 ghost use Rattle.std.specs.List.{flat_map};
 ghost use Rattle.nmgc_journal.specs.Stops.{AreEndedFrom};
-ghost use Rattle.nmgc_journal.specs.{Text.reply_line, Text.replies_text, Text.round_text, Text.rounds_text, Text.stop_at, Printing.end_counts, Printing.heap_full_line, Text.end_text, Text.report_text};
+ghost use Rattle.nmgc_journal.specs.{Printing.reply_line, Text.replies_text, Printing.round_text, Text.rounds_text, Text.stop_at, Printing.end_counts, Printing.heap_full_line, Text.end_text, Text.report_text};
 
 use crate::lines::push_reply_line;
 use crate::stops::{are_in_order, push_next_stop, push_stop_at};

@@ -8,7 +8,7 @@ pub use Rattle.nmgc_minor.specs.{Forwarding.CanCopyAll, Forwarding.CopiesAll, Fo
 pub use Rattle.nmgc_minor.specs.{declared.placing.Move.Move, declared.young.TheConstants.FOUND, declared.young.Young.Young, laws.Common.names_twice}
 pub use Rattle.nmgc_object.specs.{FinQueue.ArePointersBelow, FinQueue.FinQueue, Places.InNursery, Places.InSegment, Layouts.IsSegmentSize, Places.nursery_place, Size.IsClassOf, Size.block_size, Words.IsHeader, Words.IsName, Words.header_word, Words.name_word, declared.layout.Layout.Layout, declared.layout.Nursery.Nursery, declared.layout.TheConstants.FIRST_PLACE, declared.layout.TheConstants.SHARED_PLACE, declared.size.TheConstants.HEADER_WORDS, declared.words.Address.Address, declared.words.Header.Header, declared.words.TheConstants.NIL_WORD, declared.words.TheConstants.WEAK_FIELDS, declared.words.TheConstants.ZERO_WORD, laws.Classes.class_counted, laws.Classes.class_fits, laws.Classes.least_block as large}
 pub use Rattle.nmgc_segment.specs.Segment.{Segment}
-pub use Rattle.nmgc_world_spec.specs.{Reach.IsAlive, Reach.IsBefore, Reach.IsInOrder, Reach.IsReached, Reach.IsRoot, Reach.Lists, Reach.RefersTo, Reach.strong_fields, Step.shared_name, Wide.IsOfWeak, Wide.IsWide, Wide.IsWideRoot, Known.IsKnown, Known.IsNodeOf, World.IsShared, Known.IsWorld, World.World, World.held_by, World.no_mutator, World.node_of, World.state_of, declared.mutator_state.MutatorState.MutatorState, declared.node.Node.Node, declared.node.Node.TheVariants.Arr, declared.node.Node.TheVariants.Con, declared.node.Node.TheVariants.Stack, declared.node.Node.TheVariants.Thunk, declared.node.Node.TheVariants.Var, declared.node.Node.TheVariants.Weak, declared.node.Parts.Parts, declared.value.Name.Name, declared.value.Value.Value, declared.value.Value.TheVariants.Nil, declared.value.Value.TheVariants.Ref}
+pub use Rattle.nmgc_world_spec.specs.{Reach.IsAlive, Reach.IsBefore, Reach.IsInOrder, Reach.IsReached, Reach.IsRoot, Reach.Lists, Reach.RefersTo, Reach.strong_fields, Step.shared_name, Wide.IsOfWeak, Wide.IsWide, Pieces.IsWideRoot, Known.IsKnown, Known.IsNodeOf, World.IsShared, Known.IsWorld, World.World, World.held_by, World.no_mutator, World.node_of, World.state_of, declared.mutator_state.MutatorState.MutatorState, declared.node.Node.Node, declared.node.Node.TheVariants.Arr, declared.node.Node.TheVariants.Con, declared.node.Node.TheVariants.Stack, declared.node.Node.TheVariants.Thunk, declared.node.Node.TheVariants.Var, declared.node.Node.TheVariants.Weak, declared.node.Parts.Parts, declared.value.Name.Name, declared.value.Value.Value, declared.value.Value.TheVariants.Nil, declared.value.Value.TheVariants.Ref}
 pub use Rattle.std.proofs.{Common.List, Common.None, Common.Option, Common.Some, Common.[], Common.ap, Common.append_assoc, Common.arith, Common.cond, Common.count_by, Common.drop, Common.eqb, Common.false, Common.get_or, Common.inl, Common.inr, Common.length, Common.length-append, Common.length-drop, Common.length-take, Common.map, Common.refl, Common.set, Common.slice_index, Common.subst, Common.suc, Common.sym, Common.take, Common.true, Common.zero, Common.ℕ, Common.◌%◌, Common.◌*◌, Common.◌++◌, Common.◌+◌, Common.◌-◌, Common.◌/◌, Common.◌<◌, Common.◌∙◌, Common.◌∷◌, Common.◌≡◌, Common.◌≢◌, Common.◌≤◌, Common.◌⊎◌, Math.ListN.get_or-eq_default, Math.ListN.get_or-map, Math.ListN.length-set, Math.Nat.mul-le-mul_right}
 pub use Rattle.std.proofs.lemmas.{Bool.cases_Bool, Bool.cases_eq, Bool.cases_lt, Bool.cases_order, Bool.eq-eqb, Bool.eqb-false, Bool.ne_eqb, Bool.Decides.eqb_tells, List.append-nil, List.get_or-set_other, List.get_or-set_same, List.get_or_append_left, List.get_or_default, List.get_or_past, List.length-map, List.map-append, List.take-append-drop, List.take_all, List.take_at, List.take_more, List.Concat.flat_map-append, List.Edits.map_over_more, List.Elements.All-contains, List.Elements.Contains-append_cases, List.Elements.Contains-append_left, List.Elements.Contains-append_right, List.Elements.Contains-get_or, List.Elements.Contains-push, List.Elements.Contains-push_cases, List.Sums.sum_by-set, Option.slice_get-get_or, Option.slice_get_within}
 pub use Rattle.std.specs.{List.flat_map, Prelude.Contains, Prelude.IsSome, Prelude.nat_le, Prelude.slice_get, Prelude.slice_index_or}

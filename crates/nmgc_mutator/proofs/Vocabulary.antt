@@ -8,7 +8,7 @@ pub use Rattle.nmgc_object.specs.{FinQueue.FinQueue, Places.nursery_place, Place
 pub use Rattle.nmgc_round.specs.{Compare.exchanged, Gate.next_turn, Gate.passed, Making.fields_made, Making.header_made, Naming.AllReply, Naming.IsNamed, Naming.Replies, Owing.finding_all, Owing.fixed_at, Owing.fixed_from, Owing.owed_words, Own.slots_at, Ready.CanBear, Ready.CanGive, Ready.CanStore, Ready.IsMutator, Ready.Mutates, Ready.Names, Results.forced, Results.free_named, Results.result_answer, Results.updated, Rule.limit_of, Rule.top_of, Seat.IsAt, Seat.Knows, Seat.RoundSeat, Seat.opening_of, Seat.seen, Seat.word_count, Stacks.CanPeek, Stacks.CanSlot, Stacks.IsOwn, Stacks.IsRefusedSlot, Stacks.FindsSlot, Stacks.slot_refusal_reply, Stacks.slot_refused, Stacks.slot_swapped, Known.CanFix, Known.CanAnswer, Known.IsSafe, Known.TakesPlace, Known.FindsQueue, Known.first_answer, Known.get_refusal, Known.header_at, Known.owner_refusal, Known.refused, Known.set_refusal, Known.taken, Known.known, Known.known_answer, View.Answer, View.DoneRow, View.FixedWord, View.Hand, View.Opening, View.Part, View.Seen, View.Slots, View.UnbornWord, View.answered, View.bearing_object, View.changing, View.doing, View.finding, View.first_changed, View.gave_birth, View.hand_now, View.hand_of, View.holding, View.knowing, View.leaves, View.loaded, View.next_of, View.owed_word, View.plain, View.rows_leave, View.stored, View.storing, View.swapped, View.word, View.word_of, Weaks.CanFinalise, Weaks.finaliser_named, Weaks.weak_read, Weaks.weak_taken}
 pub use Rattle.nmgc_round.specs.{declared.table.Round.Round, laws.Common.passed_more}
 pub use Rattle.nmgc_updrem.specs.Rings.{Sender}
-pub use Rattle.nmgc_world_spec.specs.{Command.Fits, Command.HasRegisters, Known.IsMaking, Known.IsOperand, Command.words_made, Known.given}
+pub use Rattle.nmgc_world_spec.specs.{Command.Fits, Known.HasRegisters, Known.IsMaking, Known.IsOperand, Command.words_made, Known.given}
 pub use Rattle.nmgc_world_spec.specs.declared.{command.Command.Command, command.Command.TheVariants.Arr, command.Command.TheVariants.Cas, command.Command.TheVariants.Collect, command.Command.TheVariants.Con, command.Command.TheVariants.Deref, command.Command.TheVariants.Finalise, command.Command.TheVariants.Force, command.Command.TheVariants.Full, command.Command.TheVariants.Get, command.Command.TheVariants.Mov, command.Command.TheVariants.NextFin, command.Command.TheVariants.Nil, command.Command.TheVariants.Num, command.Command.TheVariants.Pop, command.Command.TheVariants.Push, command.Command.TheVariants.Same, command.Command.TheVariants.Set, command.Command.TheVariants.Show, command.Command.TheVariants.Stack, command.Command.TheVariants.Thunk, command.Command.TheVariants.Update, command.Command.TheVariants.Var, command.Command.TheVariants.Weak, command.Command.TheVariants.Yield, command.Operand.Operand, command.Operand.TheVariants.Register, command.Operand.TheVariants.Shared, command.Reply.Reply, command.Reply.TheVariants.Fine, command.Reply.TheVariants.Fixed, command.Reply.TheVariants.Given, command.Reply.TheVariants.No, command.Reply.TheVariants.NoField, command.Reply.TheVariants.NoPointer, command.Reply.TheVariants.NotOwner, command.Reply.TheVariants.WrongKind, command.Reply.TheVariants.Yes, value.Name.Name, value.Value.Value, value.Value.TheVariants.Ref}
 pub use Rattle.std.proofs.{Common.Bool, Common.List, Common.None, Common.Option, Common.Some, Common.[], Common.ap, Common.append-nil, Common.arith, Common.cond, Common.drop, Common.eq-eqb, Common.eqb, Common.false, Common.get_or, Common.get_or-set_other, Common.get_or-set_same, Common.inl, Common.inr, Common.leb, Common.length, Common.length-set, Common.ltb, Common.map, Common.mul-le-mul_right, Common.ne_eqb, Common.refl, Common.set, Common.slice_index, Common.slice_set, Common.subst, Common.suc, Common.sym, Common.take, Common.true, Common.zero, Common.ℕ, Common.◌%◌, Common.◌&&◌, Common.◌*◌, Common.◌++◌, Common.◌+◌, Common.◌-◌, Common.◌/◌, Common.◌<◌, Common.◌^◌, Common.◌∙◌, Common.◌∷◌, Common.◌≡◌, Common.◌≢◌, Common.◌≤◌, Common.◌⊎◌, Math.Bool.and-false}
 pub use Rattle.std.proofs.lemmas.{Bool.cases_lt, Bool.le-leb, Bool.le-ltb, Bool.lt-leb, Bool.lt-ltb, Grind.common_steps, List.append_assoc, List.get_or_past, List.length-map, List.length-replicate, List.map-append, List.take_more, List.Elements.All-get_or, Option.get_or_from_slice_get, Option.slice_get_read, Option.slice_get_within}

@@ -3,7 +3,7 @@ use Rattle.nmgc_pmark.proofs.Vocabulary.{◌≡◌, ◌≢◌, ◌↔◌, ℕ, L
 use Rattle.nmgc_pmark.proofs.Scans.{IsScanned, scanned_from, start_root, root_start}
 
 -- names that are reachable from some names are reachable from more
-reached_from_more : (w : World) (P Q : Name → Type 0) → ((name : Name) → P name → Q name) → (name : Name) → IsReached w P name → IsReached w Q name
+pub reached_from_more : (w : World) (P Q : Name → Type 0) → ((name : Name) → P name → Q name) → (name : Name) → IsReached w P name → IsReached w Q name
 reached_from_more w P Q more name (IsReached.start _ p) = IsReached.start name (more name p)
 reached_from_more w P Q more name (IsReached.field from _ r f) = IsReached.field from name (reached_from_more w P Q more from r) f
 

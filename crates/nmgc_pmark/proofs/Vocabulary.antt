@@ -13,7 +13,8 @@ pub use Rattle.nmgc_pmark.specs.{Claims.AreClaims, Claims.IsStopped, Claims.Stop
 pub use Rattle.nmgc_pmark.specs.declared.{bounds.Bounds.Bounds, marker.Marker.Marker, table.ClaimTable.ClaimTable}
 pub use Rattle.nmgc_round.specs.{Events.Happening, Events.did, Events.replay, Events.scanned, Rule.now, View.Opening}
 pub use Rattle.nmgc_run_laws.specs.laws.Places.{block_used, blocks_at_stop}
-pub use Rattle.nmgc_run_spec.specs.Heap.{HoldsAtStop, queues_of, registers_of, snapshots}
+pub use Rattle.nmgc_run_spec.specs.Heap.{HoldsAtStop, snapshots}
+pub use Rattle.nmgc_run_spec.specs.Terms.{queues_of, registers_of}
 pub use Rattle.nmgc_snapshot_laws.specs.{Facts.Facts, Machine.advanced, Machine.after_scan, Scan.field_at, Scan.read_at, State.State, State.mark_name, State.mark_read, State.mark_values, State.names_of, State.opening, State.root_values, State.unmarked, declared.event.Entry.Entry, laws.Lives.refers, laws.Marking.mark_cases, laws.Openings.no_names as none_of, laws.Openings.opening_facts, laws.ScanReads.read_cases, laws.Scans.scan_facts}
 pub use Rattle.nmgc_world_laws.specs.Holds.{has_result}
 pub use Rattle.nmgc_world_spec.specs.{Reach.IsBefore, Reach.IsInOrder, Reach.IsReached, Reach.IsRoot, Reach.Lists, Reach.RefersTo, Reach.strong_fields, Step.shared_name, Known.IsKnown, Known.IsNodeOf, Known.IsWorld, World.World, World.held_by, World.no_mutator, World.node_of, World.state_of, declared.mutator_state.MutatorState.MutatorState, declared.node.Node.Node, declared.node.Node.TheVariants.Arr, declared.node.Node.TheVariants.Con, declared.node.Node.TheVariants.Stack, declared.node.Node.TheVariants.Thunk, declared.node.Node.TheVariants.Var, declared.node.Node.TheVariants.Weak, declared.value.Name.Name, declared.value.Value.Value, laws.Orders.name_cases, laws.Orders.not_before_itself as never_before, laws.Orders.same_name}

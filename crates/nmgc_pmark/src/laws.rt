@@ -1,5 +1,5 @@
 //! Several markers against the run and against the one marker: each function does nothing, and its contract is the law.
-ghost use Rattle.nmgc_pmark.specs.{OneMarker.MarksTheSame, Stops.StopsAreStopped};
+ghost use Rattle.nmgc_pmark.specs.{OneMarker.MarksTheSame, Stops.StopsAreStopped, Strong.RootsStartStrongReach};
 
 use nmgc_mark::laws::all_reached_is_marked;
 
@@ -16,4 +16,9 @@ pub fn one_marker_marks_the_same()
 /// and its segments are sound. Its roots are the values in registers and finaliser queues.
 pub fn a_stop_is_stopped()
     ensures { StopsAreStopped }
+{}
+
+/// Proves that in a closed world strong fields reach the same names from the values of the roots as from the roots.
+pub fn roots_start_strong_reach()
+    ensures { RootsStartStrongReach }
 {}

@@ -1,5 +1,5 @@
 -- A compare-exchange of a field keeps the rule, whether it answers yes or no.
-use Rattle.nmgc_round.proofs.Vocabulary.{◌≡◌, ℕ, ◌+◌, ◌<◌, Bool, true, false, cond, eqb, eqb-true, List, [], ◌∷◌, ◌++◌, set, refl, sym, ap, subst, ◌∙◌, arith, slice_index, Some, some, get_elem?, Name, Value, Node, Con, Var, Arr, Thunk, Weak, Stack, Change, Operand, Command, Cas, Reply, World, node_of, is_same, node_exchanged, field_set, field_exchanged, value_for, with_node, step, field_held, names_among, owed_by, HEADER_WORDS, State, names_of, header_of, MayChange, Place, Means, plain, Opening, Part, Seen, hand_now, doing, finding, owed_word, done_by, Object, IsObject, IsIn, now, Fits, Keeps, AddsCommand, IsMutator, IsWritable, CanExchange, exchanged, words_exchanged}
+use Rattle.nmgc_round.proofs.Vocabulary.{◌≡◌, ℕ, ◌+◌, ◌<◌, Bool, true, false, cond, eqb, eqb-true, List, [], ◌∷◌, ◌++◌, set, refl, sym, ap, subst, ◌∙◌, arith, slice_index, Some, some, get_elem?, Name, Value, Node, Con, Var, Arr, Thunk, Weak, Stack, Change, Operand, Command, Cas, Reply, World, node_of, is_same, exchanged_at, field_set, field_exchanged, value_for, with_node, step, field_held, names_among, owed_by, HEADER_WORDS, State, names_of, header_of, MayChange, Place, Means, plain, Opening, Part, Seen, hand_now, doing, finding, owed_word, done_by, Object, IsObject, IsIn, now, Fits, Keeps, AddsCommand, IsMutator, IsWritable, CanExchange, exchanged, words_exchanged}
 use Rattle.nmgc_world_spec.specs.declared.value.Value.TheVariants as value
 use Rattle.nmgc_world_spec.specs.declared.change.Change.TheVariants as change
 use Rattle.nmgc_world_spec.specs.declared.command.Reply.TheVariants as reply
@@ -7,7 +7,7 @@ use Rattle.nmgc_round.proofs.{Frames.node_frame, Commands.Written, Commands.writ
 
 -- `cas` of a field that exists compares its value, and then writes as `set` does
 compares : (found : Node) (index : ℕ) (expected v old : Value) (made : Node) → field_held found index ≡ Some old →
-    field_set found index v ≡ (made, reply.Fine) → field_exchanged found index expected v ≡ node_exchanged old expected found made
+    field_set found index v ≡ (made, reply.Fine) → field_exchanged found index expected v ≡ exchanged_at (Some old) expected found made
 compares (Con tag values) index expected v old made held does = absurd cc
 compares (Thunk free result) index expected v old made held does = absurd cc
 compares (Weak parts) index expected v old made held does = absurd cc
@@ -64,7 +64,7 @@ module _ (o : Opening) (words : List ℕ) (views : List Seen) (h : Keeps o words
     may : MayChange (header_of object.node).kind index
     write : Written P words (at + HEADER_WORDS) index w (h.stands.objects object there).node (value_for W p.number can.value)
     compares : field_exchanged (h.stands.objects object there).node index (value_for W p.number can.before) (value_for W p.number can.value) ≡
-        node_exchanged write.old (value_for W p.number can.before) (h.stands.objects object there).node write.made
+        exchanged_at (Some write.old) (value_for W p.number can.before) (h.stands.objects object there).node write.made
     same : is_same write.old (value_for W p.number can.before) ≡ eqb (slice_index words (at + HEADER_WORDS + index)) expected
 
   finds : (at index expected w : ℕ) (c : Command) (can : CanExchange o p at index expected w c) → Finds at index expected w c can

@@ -100,7 +100,7 @@ module _ (o : Opening) (words : List ℕ) (views : List Seen) (h : Keeps o words
       let k = fits.hand in record {
         registers = rw same (list_set P (hand_now o p).registers (state_of W p.number).registers dest w val k.registers m);
         queue = rw same k.queue;
-        serial = cc (k.serial, same);
+        serial = k.serial ∙ sym (ap (λ (s : MutatorState). length s.nodes) same);
       }
 
   -- a load of a word that never changes

@@ -111,13 +111,20 @@ abbrev owner_reply : ℕ → Reply
 owner_reply k = cond (eqb k 6) NotOwner WrongKind
 
 top_none : (own : Bool) (n : Node) → ((header_of n).kind ≡ kind.Stack → ⊥) → top_held own n ≡ []
-top_none false n bad = refl
-top_none true (node.Con tag values) bad = refl
-top_none true (node.Var x) bad = refl
-top_none true (node.Arr values) bad = refl
-top_none true (node.Thunk free result) bad = refl
-top_none true (node.Weak parts) bad = refl
-top_none true (node.Stack size values) bad = absurd (bad refl)
+top_none own (node.Con tag values) bad = refl
+top_none own (node.Var x) bad = refl
+top_none own (node.Arr values) bad = refl
+top_none own (node.Thunk free result) bad = refl
+top_none own (node.Weak parts) bad = refl
+top_none own (node.Stack size values) bad = absurd (bad refl)
+
+top_off : (n : Node) → top_held false n ≡ []
+top_off (node.Con tag values) = refl
+top_off (node.Var x) = refl
+top_off (node.Arr values) = refl
+top_off (node.Thunk free result) = refl
+top_off (node.Weak parts) = refl
+top_off (node.Stack size values) = refl
 
 no_stack : (own : Bool) (n : Node) (v : Value) → ((header_of n).kind ≡ kind.Stack → ⊥) →
     (stack_pushed own n v ≡ (n, owner_refusal (header_word (header_of n)))) ×
@@ -512,7 +519,7 @@ module _ (o : Opening) (words : List ℕ) (views : List Seen) (h : Keeps o words
       let t = foreign_stack n value.Nil (cc (head, f.is_stack)) in
       let off : eqb y.name.maker p.number ≡ false = ne_eqb y.name.maker p.number (λ k.
       f.other (sym (foreign_maker f.at y hy f.name is_at f.valid f.named) ∙ k)) in
-      (cc (off, t.1, head), ap (λ b. top_held b n) off))
+      (cc (off, t.1, head), ap (λ b. top_held b n) off ∙ top_off n))
 
   -- `nextfin`: the first word of the queue moves into a register
   finaliser_known : (dest : ℕ) → CanGive o p (NextFin dest) → (ws : List ℕ) → (hand_now o p).queue ≡ ws → (vs : List Value) →

@@ -9,7 +9,7 @@ pub use Rattle.nmgc_round.specs.{Added.AddsCommand, Added.AddsIfMet, Added.AddsS
 pub use Rattle.nmgc_round.specs.{declared.table.Round.Round, laws.Common.folded_more, laws.Common.found_at, laws.Common.leave_more, laws.Common.marks_if, laws.Common.same_count, laws.Common.some_at, laws.Gathering.same_opening, laws.Slots.slots_other, laws.Slots.slots_same}
 pub use Rattle.nmgc_snapshot_laws.specs.{Machine.Does, Machine.IsPossible, Machine.advanced, Machine.after_command, Machine.after_scan, Scan.field_at, Scan.fields_of, Scan.is_last, Scan.moved_on, Scan.read_at, State.State, State.entry_of, State.is_listed, State.is_new, State.mark_read, State.names_of, State.with_mark, declared.event.Entry.Entry, laws.Listed.is_same_name-refl, laws.Listed.names_other, laws.Listed.names_same, laws.Listed.tested_same}
 pub use Rattle.nmgc_world_laws.specs.{Holds.has_result, laws.Growth.step_grows, laws.NewWorlds.new_is_world, laws.NewWorlds.new_nodes, laws.NodeLaws.as_many, laws.NodeLaws.maker_there, laws.NodeLaws.next_is_new, laws.NodeLaws.node_born, laws.NodeLaws.node_cases, laws.NodeLaws.node_same, laws.NodeLaws.nodes_kept, laws.NodeLaws.own_node, laws.NodeLaws.state_other, laws.NodeLaws.state_same, laws.WorldSteps.change_count}
-pub use Rattle.nmgc_world_spec.specs.{Change.changed, Change.exchanged as node_exchanged, Change.exchanged_at, Change.field_exchanged, Change.field_read, Change.field_set, Change.given_or, Change.is_same, Change.is_same_name, Change.last_of, Change.result_read, Change.stack_popped, Change.stack_pushed, Change.thunk_updated, Change.value_part, Change.value_read, Change.weak_finalised, Change.without_last, Known.IsMaking, Command.words_made, History.IsLegal as IsLegalHistory, History.Row, History.replayed, History.rows_of, Owed.field_held, Owed.free_held, Owed.if_same, Owed.names_among, Owed.owed_by, Owed.owed_in, Owed.owed_of, Owed.top_held, Owed.value_held, Owed.weak_held, Reach.IsAlive, Reach.IsReached, Reach.field, Reach.start, Reach.strong_fields, Step.born, Step.change_into, Step.change_node, Step.change_object, Step.holding as world_holding, Step.holding_given, Step.keeping, Step.next_name, Step.object_of, Step.read_into, Step.read_object, Step.shared_name, Step.step, Step.value_for, Step.value_of, Step.with_new, Step.with_node, Step.with_nth, Step.with_register, Step.with_state, Wide.IsOfWeak, Wide.IsWide, Wide.IsWideRoot, Known.IsNodeOf, Known.IsSized, World.World, World.new_mutator, World.new_world, World.no_mutator, World.node_of, World.serial_of, World.state_of}
+pub use Rattle.nmgc_world_spec.specs.{Change.changed, Change.exchanged_at, Change.field_exchanged, Change.field_read, Change.field_set, Pieces.given_or, Change.is_same, Change.is_same_name, Change.last_of, Change.result_read, Change.stack_popped, Change.stack_pushed, Change.thunk_updated, Change.value_read, Change.weak_finalised, Pieces.without_last, Known.IsMaking, Command.words_made, History.IsLegal as IsLegalHistory, History.Row, History.replayed, History.rows_of, Owed.field_held, Pieces.free_held, Pieces.if_same, Owed.names_among, Owed.owed_by, Owed.owed_in, Owed.owed_of, Pieces.top_held, Pieces.value_held, Pieces.weak_held, Reach.IsAlive, Reach.IsReached, Reach.field, Reach.start, Reach.strong_fields, Step.born, Step.change_into, Pieces.change_node, Step.change_object, Pieces.holding as world_holding, Pieces.holding_given, Step.keeping, Step.next_name, Step.object_of, Pieces.read_into, Pieces.read_object, Step.shared_name, Step.step, Step.value_for, Step.value_of, Pieces.with_new, Step.with_node, Pieces.with_nth, Step.with_register, Step.with_state, Wide.IsOfWeak, Wide.IsWide, Pieces.IsWideRoot, Known.IsNodeOf, Known.IsSized, World.World, World.new_mutator, World.new_world, World.no_mutator, World.node_of, World.serial_of, World.state_of}
 pub use Rattle.nmgc_world_spec.specs.declared.{change.Change.Change, command.Command.Command, command.Command.TheVariants.Cas, command.Command.TheVariants.Collect, command.Command.TheVariants.Deref, command.Command.TheVariants.Finalise, command.Command.TheVariants.Force, command.Command.TheVariants.Full, command.Command.TheVariants.Get, command.Command.TheVariants.Mov, command.Command.TheVariants.NextFin, command.Command.TheVariants.Nil, command.Command.TheVariants.Num, command.Command.TheVariants.Pop, command.Command.TheVariants.Push, command.Command.TheVariants.Same, command.Command.TheVariants.Set, command.Command.TheVariants.Show, command.Command.TheVariants.Update, command.Command.TheVariants.Yield, command.Operand.Operand, command.Operand.TheVariants.Register, command.Operand.TheVariants.Shared, command.Reply.Reply, command.Reply.TheVariants.Fine, command.Reply.TheVariants.Fixed, command.Reply.TheVariants.Given, command.Reply.TheVariants.No, command.Reply.TheVariants.NoField, command.Reply.TheVariants.NoPointer, command.Reply.TheVariants.NotOwner, command.Reply.TheVariants.Nothing, command.Reply.TheVariants.WrongKind, command.Reply.TheVariants.Yes, mutator_state.MutatorState.MutatorState, node.Kind.Kind, node.Node.Node, node.Node.TheVariants.Arr, node.Node.TheVariants.Con, node.Node.TheVariants.Stack, node.Node.TheVariants.Thunk, node.Node.TheVariants.Var, node.Node.TheVariants.Weak, node.Parts.Parts, value.Name.Name, value.Value.Value}
 pub use Rattle.nmgc_world_spec.specs.laws.{Common.name_itself, Orders.name_cases, Orders.same_name}
 pub use Rattle.std.proofs.Common.{All, Bool, List, None, Option, Some, [], ap, append-nil, append_assoc, arith, cond, drop, drop-cons, eq-eqb, eqb, eqb-true, false, get_or, get_or-set_other, get_or-set_same, inl, inr, is_some, le-ltb, leb, leb-false, length, length-append, length-set, lt-ltb, map, mul-le-mul_right, ne_eqb, not, refl, replicate, set, set-set, slice_index, subst, suc, sym, take, true, true≢false, zero, ℕ, ⊎_elim, ◌%◌, ◌&&◌, ◌*◌, ◌++◌, ◌+◌, ◌-◌, ◌/◌, ◌<◌, ◌==◌, ◌^◌, ◌||◌, ◌∙◌, ◌∷◌, ◌≡◌, ◌≢◌, ◌≤◌, ◌⊎◌}

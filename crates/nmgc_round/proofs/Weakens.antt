@@ -1,5 +1,5 @@
 -- A load and a swap of a weak pointer's value keep the rule.
-use Rattle.nmgc_round.proofs.Vocabulary.{◌≡◌, ◌≢◌, ℕ, ◌+◌, ◌*◌, ◌<◌, Bool, true, cond, eq-eqb, ne_eqb, List, [], ◌∷◌, ◌++◌, length, set, refl, sym, ap, subst, ◌∙◌, arith, slice_index, Option, Some, None, get_or-set_same, some, get_elem?, Name, Value, Node, Parts, Con, Var, Arr, Thunk, Weak, Stack, MutatorState, Operand, Command, Deref, Finalise, Reply, World, state_of, node_of, given_or, value_part, weak_finalised, value_for, with_node, with_register, with_state, world_holding, keeping, step, weak_held, value_held, names_among, owed_by, Header, HEADER_WORDS, State, names_of, as_many, state_same, nodes_kept, header_of, slots_of, Place, Means, HasSlots, ListMeans, fields_of_slots, slots_of_fields, plain, word, Answer, Opening, Hand, Part, Seen, hand_now, holding, doing, finding, first_changed, answered, owed_word, done_by, Object, IsObject, IsIn, now, IsHand, Fits, Keeps, AddsCommand, IsMutator, Names, operand_word, IsSafe, owed_words, finding_all, CanDeref, CanFinalise, finaliser_named, derefed, finalised, weak_read, weak_taken, set_again}
+use Rattle.nmgc_round.proofs.Vocabulary.{◌≡◌, ◌≢◌, ℕ, ◌+◌, ◌*◌, ◌<◌, Bool, true, cond, eq-eqb, ne_eqb, List, [], ◌∷◌, ◌++◌, length, set, refl, sym, ap, subst, ◌∙◌, arith, slice_index, Option, Some, None, get_or-set_same, some, get_elem?, Name, Value, Node, Parts, Con, Var, Arr, Thunk, Weak, Stack, MutatorState, Operand, Command, Deref, Finalise, Reply, World, state_of, node_of, value_read, weak_finalised, value_for, with_node, with_register, with_state, world_holding, keeping, step, weak_held, value_held, names_among, owed_by, Header, HEADER_WORDS, State, names_of, as_many, state_same, nodes_kept, header_of, slots_of, Place, Means, HasSlots, ListMeans, fields_of_slots, slots_of_fields, plain, word, Answer, Opening, Hand, Part, Seen, hand_now, holding, doing, finding, first_changed, answered, owed_word, done_by, Object, IsObject, IsIn, now, IsHand, Fits, Keeps, AddsCommand, IsMutator, Names, operand_word, IsSafe, owed_words, finding_all, CanDeref, CanFinalise, finaliser_named, derefed, finalised, weak_read, weak_taken, set_again}
 use Rattle.nmgc_world_spec.specs.declared.value.Value.TheVariants as value
 use Rattle.nmgc_world_spec.specs.declared.node.Kind.TheVariants as kind
 use Rattle.nmgc_world_spec.specs.declared.change.Change.TheVariants as change
@@ -17,10 +17,7 @@ weak_of (Stack size values) e = absurd cc
 
 -- `deref` of a weak pointer, and the words that it owes
 step_deref : (w : World) (m dest : ℕ) (object : Operand) (name : Name) (parts : Option Parts) → value_for w m object ≡ value.Ref name →
-    node_of w name ≡ Some (Weak parts) → step w m (Deref dest object) ≡ (
-      keeping w m dest (given_or reply.Dead (value_part parts)),
-      given_or reply.Dead (value_part parts),
-    )
+    node_of w name ≡ Some (Weak parts) → step w m (Deref dest object) ≡ (keeping w m dest (value_read (Weak parts)), value_read (Weak parts))
 step_deref w m dest object name parts is there =
     cc (is, there)
 
@@ -60,7 +57,7 @@ module _ (o : Opening) (words : List ℕ) (views : List Seen) (h : Keeps o words
       let same : state_of (with_state u p.number q) p.number ≡ q = state_same u p.number q exists in record {
         registers = rw same (list_set P hand.registers (state_of u p.number).registers dest w val k.registers m);
         queue = rw same k.queue;
-        serial = cc (k.serial, same);
+        serial = k.serial ∙ sym (ap (λ (s : MutatorState). length s.nodes) same);
       }
 
   -- the weak pointer at an address, if its header is named

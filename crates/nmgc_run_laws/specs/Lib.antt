@@ -1,4 +1,5 @@
 pub mod Course
+pub mod Ends
 pub mod Headers
 pub mod Limits
 pub mod Places

@@ -6,7 +6,7 @@ use Rattle.nmgc_alloc.specs.{Numbered.Segments, Segments.IsSegments, AllocState.
 use Rattle.nmgc_heap_spec.specs.{Places.Place, Represents.Represents, Represents.NoNode}
 use Rattle.nmgc_stop_spec.specs.{Occupied.AreBlocks, Placed.IsPlaceAtStop}
 use Rattle.nmgc_journal.specs.declared.report.MutatorEnd.{MutatorEnd}
-use Rattle.nmgc_run_spec.specs.{State.State, Heap.HoldsAtStop, AfterRound.HoldsAfterRound, Heap.FitBlocks}
+use Rattle.nmgc_run_spec.specs.{State.State, Heap.HoldsAtStop, AfterRound.HoldsAfterRound, End.FitBlocks}
 
 -- the law that at a stop the places are the blocks in use
 abbrev pub BlocksAtStop : Type 0

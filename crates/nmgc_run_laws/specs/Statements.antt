@@ -5,8 +5,8 @@ use Rattle.nmgc_segment.specs.declared.state.State.TheVariants as stands
 use Rattle.nmgc_segment.specs.Segment.{Segment}
 use Rattle.nmgc_alloc.specs.Numbered.{is}
 use Rattle.nmgc_journal.specs.{declared.report.RoundRows.RoundRows, declared.report.Report.Report, declared.report.StopRow.StopRow, declared.report.CycleRow.CycleRow, declared.report.End.End}
-use Rattle.nmgc_script.specs.{Limits.FitsScript, Limits.upgraded, Limits.HasFewCommands, declared.script.Script.Script}
-use Rattle.nmgc_run_spec.specs.{AfterRound.program_of, State.Plan, Stop.answer_of, Lawful.IsLawful, Lawful.IsLawfulFor, Crowded.IsRunOf, Run.Run, Run.Turn, Run.IsRun, Run.IsTurn, Run.AreRowsOf, Run.last_state, AfterRound.with_turn}
+use Rattle.nmgc_script.specs.{Limits.FitsScript, Limits.upgraded, declared.script.Script.Script, Parts.HasFewCommands}
+use Rattle.nmgc_run_spec.specs.{AfterRound.program_of, State.Plan, Stop.answer_of, Lawful.IsLawful, Crowded.IsRunOf, Run.Run, Run.Turn, Run.IsRun, Run.IsTurn, Run.AreRowsOf, Run.last_state, AfterRound.with_turn}
 
 -- the law that a layout has the classes of dense blocks, and one for each doubling from `DENSE_WORDS` to a segment's words
 abbrev pub ClassesAreCounted : Type 0
@@ -31,7 +31,7 @@ last_free_count (row ∷ next ∷ rows) = last_free_count (next ∷ rows)
 
 -- the law that the row of the last stop counts the free segments of the report's heap
 abbrev pub FreeIsReal : Type 0
-FreeIsReal = (plan : Plan) (report : Report) → IsLawfulFor plan report →
+FreeIsReal = (script : Script) (report : Report) → IsLawful script report →
     last_free_count report.stops ≡ count_by (λ (segment : Segment). is segment.state stands.Free) report.segments.segments
 
 -- the law that a report is lawful for a script whatever the script's version: the plan is the same

@@ -4,12 +4,14 @@ pub mod Course
 pub mod Crowding
 pub mod Crowds
 pub mod CycleCounts
+pub mod Ends
 pub mod Filing
 pub mod Frees
 pub mod FullHeaps
 pub mod Leaving
 pub mod Lefts
 pub mod Limits
+pub mod Mutators
 pub mod Places
 pub mod Programs
 pub mod Rounds

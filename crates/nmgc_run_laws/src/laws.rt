@@ -1,6 +1,6 @@
 //! Laws that test the definitions of `nmgc_run_spec`, as contracts of functions. A body only calls the laws that it needs.
 ghost use Rattle.nmgc_run_laws.specs.Statements.{ClassesAreCounted, RunGoesOn, AddsOneTurn, LastIsOfTurn, LeftIsDetermined, FreeIsReal, VersionIsNothing, UpgradeIsNothing, EachCycleHasItsRow, ClosingsAreSoon, LawfulAreOfRuns};
-ghost use Rattle.nmgc_run_laws.specs.{Places.BlocksAtStop, Places.BlocksAfterRound, Places.BlocksArePlaces, Sound.StatesAreSound, Sound.RoundsAreSound, Sound.TrackedHaveBlocks, Course.RunsAreInCourse, Course.RoundsStayInCourse, Course.PromotionsStayInCourse, Course.CyclesBeginInCourse, Limits.ScriptsHaveGoodPlans, Limits.StatesAreWithin, Limits.RoundsAreWithin};
+ghost use Rattle.nmgc_run_laws.specs.{Ends.EndsAreStops, Places.BlocksAtStop, Places.BlocksAfterRound, Places.BlocksArePlaces, Sound.StatesAreSound, Sound.RoundsAreSound, Sound.TrackedHaveBlocks, Course.RunsAreInCourse, Course.RoundsStayInCourse, Course.PromotionsStayInCourse, Course.CyclesBeginInCourse, Limits.ScriptsHaveGoodPlans, Limits.StatesAreWithin, Limits.RoundsAreWithin};
 
 use nmgc_alloc::laws::counts_are_equal;
 use nmgc_object::laws::words_differ;
@@ -86,6 +86,12 @@ pub fn runs_stay_within_limits()
     ensures scripts { ScriptsHaveGoodPlans }
     ensures states { StatesAreWithin }
     ensures rounds { RoundsAreWithin }
+{}
+
+/// Proves that at the end of a run of a script within the limits, the heap at the end (`HoldsAtEnd`) is the heap at the last
+/// stop (`HasHeapOfStop`).
+pub fn ends_are_stops()
+    ensures { EndsAreStops }
 {}
 
 /// Proves that each lawful report of a script is a report of the script's run (`IsRunOf`), if the script is within the limits

@@ -9,44 +9,24 @@ use Rattle.nmgc_stop_spec.specs.Placed.{IsPlaceAtStop}
 use Rattle.nmgc_journal.specs.declared.report.MutatorEnd.{MutatorEnd}
 use Rattle.nmgc_run_spec.specs.State.{State, Progress, marking}
 
--- each block is large enough for its object, tracked or not
-abbrev pub FitBlocks : World → AllocState → Type 0
-FitBlocks w allocation = (number block : ℕ) (name : Name) (node : Node) → LiesIn allocation number block name → node_of w name ≡ Some node →
-    size_of node ≤ block_size (cells allocation number).class
-
 -- the worlds that the collector still uses: the snapshot of a cycle that is marking, and otherwise none
 abbrev pub snapshots : Progress → List World
 snapshots (marking c) = c.snapshot ∷ []
 snapshots _ = []
 
--- the registers of all mutators, one after another
-abbrev pub registers_of : List MutatorEnd → List ℕ
-registers_of mutators = flat_map (λ (m : MutatorEnd). m.registers) mutators
-
--- the finaliser queues of all mutators
-abbrev pub queues_of : List MutatorEnd → List (List ℕ)
-queues_of mutators = map (λ (m : MutatorEnd). m.queue) mutators
-
--- the next serials of all mutators
-abbrev pub serials_of : List MutatorEnd → List ℕ
-serials_of mutators = map (λ (m : MutatorEnd). m.serial) mutators
-
--- the mutator has exactly `REGISTERS` registers
-abbrev pub HasAllRegisters : MutatorEnd → Type 0
-HasAllRegisters m = length m.registers ≡ REGISTERS
-
--- words, roots and segments represent a state while the collector uses these earlier worlds, and objects fit their blocks
+-- words, roots and segments represent a state while the collector uses these earlier worlds, and each object fits its block
 pub record HeapStandsFor (layout : Layout) (earlier : List World) (places : List Place) (w : World) (allocation : AllocState) (words : List ℕ)
     (segments : Segments) (mutators : List MutatorEnd) : Type 0 where
-  pub fit : FitBlocks w allocation
+  pub fit : (number block : ℕ) (name : Name) (node : Node) → LiesIn allocation number block name → node_of w name ≡ Some node →
+      size_of node ≤ block_size (cells allocation number).class
   pub represents : Represents layout earlier NoNode places w words
-  pub registers : All HasAllRegisters mutators
-  pub roots : RepresentsRoots places w (registers_of mutators) (queues_of mutators) (serials_of mutators)
+  pub registers : All (λ (m : MutatorEnd). length m.registers ≡ REGISTERS) mutators
+  pub roots : RepresentsRoots places w (flat_map (λ (m : MutatorEnd). m.registers) mutators) (map (λ (m : MutatorEnd). m.queue) mutators)
+      (map (λ (m : MutatorEnd). m.serial) mutators)
   pub layout_is : segments.layout ≡ layout
   pub stands : StandsFor segments words allocation
 
--- the heap at a stop: the nurseries are empty, so exactly g and the blocks have places. Exactly the weak pointers that are
--- alive and have a block are listed, each with its place
+-- the heap at a stop: exactly g and the blocks have places, since nurseries are empty, and weak pointers in blocks are listed
 pub record HoldsAtStop (layout : Layout) (s : State) (words : List ℕ) (segments : Segments) (mutators : List MutatorEnd) (weaks : List Place) : Type 0 where
   pub places : List Place
   pub all : (p : Place) → Contains places p ↔ IsPlaceAtStop layout s.allocation p

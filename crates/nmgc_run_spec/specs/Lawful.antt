@@ -1,21 +1,13 @@
 -- The lawful report: the headline theorem's claim about a run.
-use Rattle.std.specs.Prelude.{◌≡◌, List, map, Some}
-use Rattle.nmgc_heap_spec.specs.Places.{Place}
+use Rattle.std.specs.Prelude.{◌≡◌, Some}
 use Rattle.nmgc_journal.specs.declared.report.Report.{Report}
 use Rattle.nmgc_script.specs.declared.script.Script.{Script}
-use Rattle.nmgc_run_spec.specs.{State.Plan, State.plan_of, State.layout_of, Stop.answer_of, Run.Run, Run.IsRun, Run.AreRowsOf, Run.last_state, Heap.HoldsAtStop}
+use Rattle.nmgc_run_spec.specs.{State.plan_of, State.layout_of, Stop.answer_of, Run.Run, Run.IsRun, Run.AreRowsOf, Run.last_state, End.HoldsAtEnd}
 
--- the report describes one run of the plan up to its end, the heap that it left, and the names of the listed weak pointers
-pub record IsLawfulFor (plan : Plan) (report : Report) : Type 0 where
+-- a lawful report: it describes one run of the script's plan to its end, and the heap that it left
+pub record IsLawful (script : Script) (report : Report) : Type 0 where
   pub run : Run
-  pub is_run : IsRun plan run
+  pub is_run : IsRun (plan_of script) run
   pub agrees : AreRowsOf run report.rounds report.stops report.cycles
-  pub end_is : answer_of plan (last_state run) ≡ Some report.end
-  pub weaks : List Place
-  pub weaks_are : report.weaks ≡ map (λ (p : Place). p.name) weaks
-  pub heap : HoldsAtStop (layout_of plan) (last_state run) report.words report.segments report.mutators weaks
-
--- the report is lawful for the script: its rounds, stops, cycles and end describe one run of the plan up to its end. Its heap
--- represents the last state of that run
-abbrev pub IsLawful : Script → Report → Type 0
-IsLawful script report = IsLawfulFor (plan_of script) report
+  pub end_is : answer_of (plan_of script) (last_state run) ≡ Some report.end
+  pub heap : HoldsAtEnd (layout_of (plan_of script)) (last_state run) report

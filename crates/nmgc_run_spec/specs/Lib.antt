@@ -1,6 +1,8 @@
 pub mod AfterRound
+pub mod AtStop
 pub mod Closing
 pub mod Crowded
+pub mod End
 pub mod Heap
 pub mod Lawful
 pub mod Round
@@ -8,3 +10,4 @@ pub mod Run
 pub mod Slice
 pub mod State
 pub mod Stop
+pub mod Terms

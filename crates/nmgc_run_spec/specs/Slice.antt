@@ -1,5 +1,5 @@
 -- The part of its program that a mutator does in one round.
-use Rattle.std.specs.Prelude.{ℕ, ◌-◌, List, [], ◌∷◌, length, map, drop, Bool, true, false, ◌&&◌, nat_lt, nat_le, if◌then◌else◌}
+use Rattle.std.specs.Prelude.{ℕ, ◌-◌, List, [], ◌∷◌, length, map, drop, Bool, true, false, ◌&&◌, ◌||◌, nat_lt, nat_le, if◌then◌else◌}
 use Rattle.std.specs.List.{list_any}
 use Rattle.nmgc_world_spec.specs.{declared.command.Command.Command, declared.command.Command.TheVariants.Yield, declared.command.Command.TheVariants.Collect, declared.command.Command.TheVariants.Full, Command.words_made}
 use Rattle.nmgc_script.specs.declared.script.Config.{Config}
@@ -14,25 +14,18 @@ abbrev pub is_full : Command → Bool
 is_full Full = true
 is_full _ = false
 
--- the command ends a slice
+-- the command ends a slice: it yields, or asks for a cycle or a full cycle
 abbrev pub ends_slice : Command → Bool
 ends_slice Yield = true
-ends_slice Collect = true
-ends_slice Full = true
-ends_slice _ = false
+ends_slice c = is_collect c || is_full c
 
--- a slice that may have `commands` more commands, with `words` words left in the nursery, has room for this command
-abbrev pub is_next : ℕ → ℕ → Command → Bool
-is_next commands words c = nat_lt 0 commands && nat_le (words_made c) words
-
--- the slice of a program: its commands up to and including the first that ends a slice, or up to the first without room
+-- the slice of a program: its first commands, at most `commands`, with room for all in `words` words, up to one that ends it
 abbrev pub slice : ℕ → ℕ → List Command → List Command
 slice commands words [] = []
-slice commands words (c ∷ program) = if is_next commands words c then c ∷
+slice commands words (c ∷ program) = if nat_lt 0 commands && nat_le (words_made c) words then c ∷
     (if ends_slice c then [] else slice (commands - 1) (words - words_made c) program) else []
 
--- a mutator's slice in a round: its next commands, up to and including the first `yield`, `collect` or `full`. The slice has
--- at most `config.slice` commands, and ends before the first command whose object lacks room in the nursery
+-- a mutator's slice in a round: at most `config.slice` commands, and none whose object lacks room in the nursery
 abbrev pub slice_of : Config → List Command → List Command
 slice_of config left = slice config.slice config.nursery left
 
@@ -43,10 +36,6 @@ rest_of config left = drop (length (slice_of config left)) left
 -- the slices of all mutators
 abbrev pub slices : Config → List (List Command) → List (List Command)
 slices config left = map (slice_of config) left
-
--- some slice has a command with this property
-abbrev pub some_asks : (Command → Bool) → List (List Command) → Bool
-some_asks such commands = list_any (list_any such) commands
 
 -- some program has commands left
 abbrev pub has_left : List (List Command) → Bool

@@ -1,15 +1,16 @@
 -- The state of a run at a stop, or after a round.
 --
 -- A state has the world of the reference heap and the allocation state: no words, no marks and no addresses. The collector's
--- marks so far are left out, since a cycle is judged by its closing alone.
-use Rattle.std.specs.Prelude.{ℕ, ◌+◌, List, [], length, Bool, true, false}
+-- marks so far are left out, since a cycle is judged by its closing alone. Its number is the last stop's, or after a round
+-- the coming stop's. It also has the number of cycles begun, and the requests for a cycle and for a full cycle.
+use Rattle.std.specs.Prelude.{ℕ, ◌≡◌, ◌+◌, List, [], length, Bool, true, false}
 use Rattle.nmgc_world_spec.specs.{declared.command.Command.Command, World.World, World.new_world}
 use Rattle.nmgc_segment.specs.declared.state.State.TheVariants as stands
-use Rattle.nmgc_object.specs.{declared.layout.Layout.Layout, Places.reserve_count}
-use Rattle.nmgc_alloc.specs.AllocState.{AllocState, all_empty, cycle_begun, count_in}
+use Rattle.nmgc_object.specs.declared.layout.Layout.{Layout}
+use Rattle.nmgc_alloc.specs.AllocState.{AllocState, SweepsSome, all_empty, cycle_begun, count_in}
 use Rattle.nmgc_script.specs.{declared.script.Config.Config, declared.script.Script.Script}
 use Rattle.nmgc_journal.specs.{declared.report.Phase.Phase, declared.report.Phase.TheVariants.Idle, declared.report.Phase.TheVariants.Marking, declared.report.Phase.TheVariants.Sweeping}
-use Rattle.nmgc_stop_spec.specs.Cycle.{Cycle}
+use Rattle.nmgc_stop_spec.specs.Cycle.{IsKeptIn, Cycle}
 
 -- a plan: the sizes of the heap, and a program for each mutator
 pub record Plan : Type 0 where
@@ -26,9 +27,7 @@ pub data Progress : Type 0 where
   marking : (c : Cycle) → Progress
   sweeping : (c : Cycle) (closed : ℕ) → Progress
 
--- the state of a run. It has the number of the last stop (after a round, of the coming stop), the world of the reference
--- heap, the allocation state and the collector's progress. It also has the number of cycles begun, the requests for a cycle
--- and for a full cycle, and the rest of the programs, but no words, marks or addresses
+-- the state of a run: its stop, world, blocks, the collector's progress, the cycles begun, the requests, and the programs left
 pub record State : Type 0 where
   pub number : ℕ
   pub world : World
@@ -50,20 +49,18 @@ abbrev pub is_idle : Progress → Bool
 is_idle idle = true
 is_idle _ = false
 
--- the number of free segments, and the number of segments that wait to be swept
+-- the number of free segments
 abbrev pub free_count : State → ℕ
 free_count s = count_in stands.Free s.allocation
 
-abbrev pub waiting_count : AllocState → ℕ
-waiting_count allocation = count_in stands.Sweeping allocation
+-- the sweep of this number of waiting segments: a cycle that is sweeping sweeps them, and without such a cycle none is swept
+abbrev pub SweepsIn : Progress → ℕ → AllocState → AllocState → Type 0
+SweepsIn (sweeping c closed) count old new = SweepsSome (IsKeptIn c) count old new
+SweepsIn _ count old new = new ≡ old
 
 -- the layout of a plan's heap, with the nurseries
 abbrev pub layout_of : Plan → Layout
 layout_of plan = record { segments = plan.config.segments; words = plan.config.words; nursery = plan.config.nursery; mutators = length plan.threads }
-
--- the reserve: the number of segments that must be free for a round to be sure of its promotion
-abbrev pub reserve_of : Plan → ℕ
-reserve_of plan = reserve_count (layout_of plan)
 
 -- the state of a run before its first stop
 abbrev pub start : Plan → State

@@ -3,11 +3,11 @@ use Rattle.std.proofs.{Common.◌≡◌, Common.◌≢◌, Common.◌≤◌, Com
 use Rattle.std.specs.Str.{bytes_eq}
 use Rattle.nmgc_world_spec.specs.{declared.command.Command.Command, Command.HasRegistersBelow, Command.HasNumbers, Command.words_made}
 use Rattle.nmgc_io.specs.{Text.tokens_of, Text.spaced, laws.Parts.spaced-tokens_of}
-use Rattle.nmgc_script.specs.{declared.fault.Cause.Cause, declared.fault.ScriptFault.ScriptFault, declared.script.Config.Config, declared.script.Script.Script, declared.version.Version.Version, declared.sections.Entry.Entry, declared.verbs.Verb.Verb, laws.Versions.IsUsable, laws.Versions.usable_version, laws.Versions.registers_wider, Limits.IsVersion, Limits.total_words, Limits.version_1, Limits.version_2, Spelling.verb_name, Spelling.command_words, Spelling.heap_words, Spelling.section_words, Spelling.version_words, Text.kept_lines, Text.end_of, Faults.first_of, Faults.HasArity, Faults.HasToBegin, Faults.HasFault, Faults.order_of, Faults.IsFirstFault, Faults.IsFaultless, Faults.begun_with, Faults.IsFaultInRest, Faults.IsFaultFromHeap, Faults.IsFaultOfText, Results.IsFaultOf, Reading.◌>>=◌, Reading.or_cause, Reading.verb_at, Reading.operands_at, Reading.sized, Reading.command_at, Reading.thread_at, Reading.section_at, Reading.is_section, Reading.entry_at, Reading.begun_after, Reading.with_entry, Reading.rest_at, Reading.programs_at, Reading.threads_at, Reading.version_at, Reading.heap_words_at, Reading.numbers_at, Reading.heap_at, Reading.script_at, Reading.at_line, Reading.GivesAt, laws.Lines.tokens_of-line, laws.Lines.heap_line_words, laws.Lines.first_line, laws.Lines.second_line, Limits.version_3, laws.Lines.third_line}
+use Rattle.nmgc_script.specs.{declared.fault.Cause.Cause, declared.fault.ScriptFault.ScriptFault, declared.script.Config.Config, declared.script.Script.Script, declared.version.Version.Version, declared.sections.Entry.Entry, declared.verbs.Verb.Verb, laws.Versions.IsUsable, laws.Versions.usable_version, laws.Versions.registers_wider, Limits.IsVersion, Parts.total_words, Limits.version_1, Limits.version_2, Parts.verb_name, Spelling.command_words, Spelling.heap_words, Parts.section_words, Parts.version_words, Text.kept_lines, Parts.end_of, Faults.first_of, Faults.HasArity, Faults.HasToBegin, Faults.HasFault, Faults.order_of, Faults.IsFirstFault, Faults.IsFaultless, Faults.begun_with, Faults.IsFaultInRest, Faults.IsFaultFromHeap, Faults.IsFaultOfText, Results.IsFaultOf, Reading.◌>>=◌, Reading.or_cause, Reading.verb_at, Reading.operands_at, Reading.sized, Reading.command_at, Reading.thread_at, Reading.section_at, Reading.is_section, Reading.entry_at, Reading.begun_after, Reading.with_entry, Reading.rest_at, Reading.programs_at, Reading.threads_at, Reading.version_at, Reading.heap_words_at, Reading.numbers_at, Reading.heap_at, Reading.script_at, Reading.at_line, Reading.GivesAt, laws.Lines.tokens_of-line, laws.Lines.heap_line_words, laws.Lines.first_line, laws.Lines.second_line, Limits.version_3, laws.Lines.third_line}
 use Rattle.nmgc_script.specs.declared.fault.Cause.TheVariants as cause
 use Rattle.nmgc_script.specs.declared.fault.ScriptFault.TheVariants as script_fault
 use Rattle.nmgc_script.specs.declared.sections.Entry.TheVariants as entry
-use Rattle.nmgc_script.proofs.{WordLaws.FailsBy, WordLaws.fails_choose, WordLaws.bind_ok, WordLaws.ok_is, VerbLaws.verb_takes, VerbLaws.verb_again, VerbLaws.verb_fails, VerbLaws.verb_of_nothing, CommandLaws.Spell, CommandLaws.operands_spell, CommandLaws.sized_takes, CommandLaws.command_again, CauseLaws.result_cases, CauseLaws.fails_is, CauseLaws.HasCount, CauseLaws.CausesArity, CauseLaws.operands_cause, ArityLaws.right_of, ArityLaws.count_of, ArityLaws.count_some, ConfigLaws.heap_takes, ConfigLaws.heap_again, SectionLaws.at_line_ok, SectionLaws.thread_reads, SectionLaws.Begins, SectionLaws.section_takes}
+use Rattle.nmgc_script.proofs.{WordLaws.FailsBy, WordLaws.fails_choose, WordLaws.bind_ok, WordLaws.ok_is, VerbLaws.verb_takes, VerbLaws.verb_again, VerbLaws.verb_fails, VerbLaws.verb_of_nothing, CommandLaws.Spell, CommandLaws.operands_spell, CommandLaws.sized_takes, CommandLaws.command_again, CauseLaws.result_cases, CauseLaws.fails_is, CauseLaws.HasCount, CauseLaws.CausesArity, CauseLaws.operands_cause, ArityLaws.named_command, ArityLaws.named_verb, ArityLaws.right_of, ArityLaws.count_of, ArityLaws.count_some, ConfigLaws.heap_takes, ConfigLaws.heap_again, SectionLaws.at_line_ok, SectionLaws.thread_reads, SectionLaws.Begins, SectionLaws.section_takes}
 use Rattle.nmgc_lists.specs.laws.Truths.{chosen}
 
 -- the same reading can't give two results
@@ -78,7 +78,7 @@ sized_fails size c e is = elim (chosen (leb (words_made c) size) (Ok c) (Err cau
 module _ (ver : Version) (usable : IsUsable ver) (h : Config) (n : ℕ) where
   -- a name that no verb has
   command_fault : (words : List (List ℕ)) → (HasToBegin n words → ⊥) → ((v : Verb) → first_of words ≢ verb_name v) → IsFirstFault ver h n words cause.Command
-  command_fault words apart no_verb = record { here = (apart, no_verb); none_before = before }
+  command_fault words apart no_verb = record { here = (apart, λ c same. let v = named_verb c in no_verb v.0 (same ∙ v.1)); none_before = before }
     where
       before : (e : Cause) → order_of e < 4 → HasFault ver h n words e → ⊥
       before cause.Version lt f = f
@@ -95,7 +95,7 @@ module _ (ver : Version) (usable : IsUsable ver) (h : Config) (n : ℕ) where
   arity_fault name words v apart is wrong = record {
     here = (
       apart,
-      (v, is),
+      (let c = named_command v in (c.0, is ∙ c.1)),
       λ some. wrong (subst (λ (k : ℕ). HasCount v k) some.4 (count_of ver usable v some.0 some.1 some.2 (some.3 ∙ is))),
     );
     none_before = before;
@@ -106,7 +106,7 @@ module _ (ver : Version) (usable : IsUsable ver) (h : Config) (n : ℕ) where
       before cause.Heap lt f = f
       before cause.Thread lt f = apart f.0
       before cause.Total lt f = apart f.0
-      before cause.Command lt f = f.1 v is
+      before cause.Command lt f = let c = named_command v in f.1 c.0 (is ∙ c.1)
       before cause.Arity lt f = absurd (omega arith)
       before cause.Operand lt f = absurd (omega arith)
       before cause.Size lt f = absurd (omega arith)
@@ -133,7 +133,7 @@ module _ (ver : Version) (usable : IsUsable ver) (h : Config) (n : ℕ) where
       before cause.Heap lt f = f
       before cause.Thread lt f = apart f.0
       before cause.Total lt f = apart f.0
-      before cause.Command lt f = f.1 v (verb_takes name v is)
+      before cause.Command lt f = let c = named_command v in f.1 c.0 (verb_takes name v is ∙ c.1)
       before cause.Arity lt f = f.2 (right_arity name words v is right)
       before cause.Operand lt f = absurd (omega arith)
       before cause.Size lt f = absurd (omega arith)
@@ -148,7 +148,7 @@ module _ (ver : Version) (usable : IsUsable ver) (h : Config) (n : ℕ) where
       before cause.Heap lt f = f
       before cause.Thread lt f = apart f.0
       before cause.Total lt f = apart f.0
-      before cause.Command lt f = f.1 v (verb_takes name v is)
+      before cause.Command lt f = let c = named_command v in f.1 c.0 (verb_takes name v is ∙ c.1)
       before cause.Arity lt f = f.2 (right_arity name words v is right)
       before cause.Operand lt f = f.1 c registers numbers same
       before cause.Size lt f = absurd (omega arith)
@@ -227,7 +227,7 @@ module _ (ver : Version) (usable : IsUsable ver) (h : Config) (n : ℕ) where
       faultless cause.Heap f = f
       faultless cause.Thread f = apart f.0
       faultless cause.Total f = apart f.0
-      faultless cause.Command f = f.1 v.0 named
+      faultless cause.Command f = let k = named_command v.0 in f.1 k.0 (named ∙ k.1)
       faultless cause.Arity f = f.2 (right_arity name words v.0 v.1 right)
       faultless cause.Operand f = f.1 c spelled.1 spelled.2 (ap (λ (w : List ℕ). w ∷ words) named ∙ spelled.0)
       faultless cause.Size f =

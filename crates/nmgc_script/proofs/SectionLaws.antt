@@ -3,7 +3,7 @@ use Rattle.std.proofs.{Common.◌≡◌, Common.◌≤◌, Common.◌<◌, Commo
 use Rattle.std.specs.{List.AllByRecursion, Str.bytes_eq}
 use Rattle.nmgc_world_spec.specs.declared.command.Command.{Command}
 use Rattle.nmgc_io.specs.{Text.tokens_of, Text.spaced, laws.Parts.spaced-tokens_of}
-use Rattle.nmgc_script.specs.{declared.fault.Cause.Cause, declared.script.Config.Config, declared.verbs.Verb.Verb, declared.sections.Entry.Entry, declared.version.Version.Version, laws.Versions.IsUsable, Limits.total_words, Spelling.verb_name, Spelling.command_words, Spelling.section_words, Spelling.program_lines, Spelling.section_lines, Reading.◌>>=◌, Reading.number_at, Reading.or_cause, Reading.thread_at, Reading.section_at, Reading.is_section, Reading.entry_at, Reading.command_at, Reading.at_line, Reading.with_entry, Reading.begun_after, Reading.rest_at, laws.Lines.tokens_of-line, laws.Lines.command_line, laws.Lines.section_line_words}
+use Rattle.nmgc_script.specs.{declared.fault.Cause.Cause, declared.script.Config.Config, declared.verbs.Verb.Verb, declared.sections.Entry.Entry, declared.version.Version.Version, laws.Versions.IsUsable, Parts.total_words, Parts.verb_name, Spelling.command_words, Parts.section_words, Parts.program_lines, Spelling.section_lines, Reading.◌>>=◌, Reading.number_at, Reading.or_cause, Reading.thread_at, Reading.section_at, Reading.is_section, Reading.entry_at, Reading.command_at, Reading.at_line, Reading.with_entry, Reading.begun_after, Reading.rest_at, laws.Lines.tokens_of-line, laws.Lines.command_line, laws.Lines.section_line_words}
 use Rattle.nmgc_script.specs.declared.fault.Cause.TheVariants as cause
 use Rattle.nmgc_script.specs.declared.verbs.Verb.TheVariants as verb
 use Rattle.nmgc_script.specs.declared.sections.Entry.TheVariants as entry

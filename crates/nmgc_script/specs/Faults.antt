@@ -1,9 +1,9 @@
 -- Which fault a line has, cause by cause, and which fault is reported.
-use Rattle.std.specs.Prelude.{◌≡◌, ◌≢◌, ◌<◌, ◌+◌, ℕ, List, [], ◌∷◌, ◌⊎◌, length, codes, if◌then◌else◌}
+use Rattle.std.specs.Prelude.{◌≡◌, ◌≢◌, ◌<◌, ◌+◌, ◌*◌, ℕ, List, [], ◌∷◌, ◌⊎◌, length, codes, decimal, if◌then◌else◌}
 use Rattle.std.specs.Str.{bytes_eq}
 use Rattle.nmgc_world_spec.specs.{declared.command.Command.Command, Command.HasRegistersBelow, Command.HasNumbers, Command.words_made}
 use Rattle.nmgc_io.specs.Text.{tokens_of, spaced}
-use Rattle.nmgc_script.specs.{declared.fault.Cause.Cause, declared.script.Config.Config, declared.verbs.Verb.Verb, declared.version.Version.Version, Limits.FitsConfig, Limits.IsVersion, Limits.total_words, Spelling.verb_name, Spelling.command_words, Spelling.heap_words, Spelling.section_words, Spelling.version_words}
+use Rattle.nmgc_script.specs.{declared.fault.Cause.Cause, declared.script.Config.Config, declared.version.Version.Version, Limits.FitsConfig, Limits.IsVersion, Spelling.command_words, Spelling.heap_words}
 use Rattle.nmgc_script.specs.declared.fault.Cause.TheVariants as cause
 
 -- the first token of a line, or the empty token if there is none
@@ -26,10 +26,10 @@ HasToBegin n words = (first_of words ≡ codes "thread") ⊎ (n ≡ 0)
 abbrev pub HasFault : Version → Config → ℕ → List (List ℕ) → Cause → Type 0
 HasFault v h n words cause.Version = ⊥
 HasFault v h n words cause.Heap = ⊥
-HasFault v h n words cause.Thread = HasToBegin n words × (n < v.threads → words ≢ section_words n)
-HasFault v h n words cause.Total = HasToBegin n words × (v.heap_words < total_words h (n + 1))
-HasFault v h n words cause.Command = (HasToBegin n words → ⊥) × ((name : Verb) → first_of words ≢ verb_name name)
-HasFault v h n words cause.Arity = (HasToBegin n words → ⊥) × ((name : Verb) × (first_of words ≡ verb_name name)) ×
+HasFault v h n words cause.Thread = HasToBegin n words × (n < v.threads → words ≢ codes "thread" ∷ decimal n ∷ [])
+HasFault v h n words cause.Total = HasToBegin n words × (v.heap_words < h.segments * h.words + (n + 1) * h.nursery)
+HasFault v h n words cause.Command = (HasToBegin n words → ⊥) × ((c : Command) → first_of words ≢ first_of (command_words c))
+HasFault v h n words cause.Arity = (HasToBegin n words → ⊥) × ((c : Command) × (first_of words ≡ first_of (command_words c))) ×
     (HasArity v (first_of words) (length words) → ⊥)
 HasFault v h n words cause.Operand = (HasToBegin n words → ⊥) × ((c : Command) → HasRegistersBelow v.registers c → HasNumbers c → words ≢ command_words c)
 HasFault v h n words cause.Size = (HasToBegin n words → ⊥) × ((c : Command) × HasRegistersBelow v.registers c × HasNumbers c ×
@@ -78,5 +78,5 @@ IsFaultFromHeap v end (line ∷ lines) number c =
 abbrev pub IsFaultOfText : ℕ → List (ℕ × List ℕ) → ℕ → Cause → Type 0
 IsFaultOfText end [] number c = (number ≡ end) × (c ≡ cause.Version)
 IsFaultOfText end (line ∷ lines) number c =
-    ((number ≡ line.0) × (c ≡ cause.Version) × ((v : Version) → IsVersion v → line.1 ≢ spaced (version_words v.number))) ⊎
-    ((v : Version) × IsVersion v × (line.1 ≡ spaced (version_words v.number)) × IsFaultFromHeap v end lines number c)
+    ((number ≡ line.0) × (c ≡ cause.Version) × ((v : Version) → IsVersion v → line.1 ≢ spaced (codes "nmgc" ∷ decimal v.number ∷ []))) ⊎
+    ((v : Version) × IsVersion v × (line.1 ≡ spaced (codes "nmgc" ∷ decimal v.number ∷ [])) × IsFaultFromHeap v end lines number c)

@@ -1,6 +1,7 @@
 pub mod Bench
 pub mod Faults
 pub mod Limits
+pub mod Parts
 pub mod Printing
 pub mod Reading
 pub mod Results

@@ -5,11 +5,8 @@ use Rattle.nmgc_limits.specs.{Limits.IsSegmentSize, Limits.most_heap_words, Limi
 use Rattle.nmgc_world_spec.specs.{Command.Fits, Command.HasRegistersBelow, declared.command.Command.Command}
 use Rattle.nmgc_script.specs.{declared.script.Config.Config, declared.script.Script.Script, declared.version.Version.Version, Text.kept_lines}
 
--- the versions of scripts: the most threads of a script, the number of registers, from 0, that its commands may name, and the
--- most segments. A version also has the most words of all segments and nurseries, and the most bytes of a script. Threads and
--- registers are 8 and 16 in version 1, 32 and 64 in versions 2 and 3. There are at most 65,536 segments. The heap has at most
--- 4,194,304 words (32 MiB) in versions 1 and 2, and 268,435,456 words (2 GiB) in version 3. A script has at most 16,777,216
--- bytes in versions 1 and 2, and 67,108,864 bytes in version 3.
+-- the versions of scripts, with the most threads of a script, the number of registers that its commands may name, the most
+-- segments, the most words of all segments and nurseries together, and the most bytes of a script
 abbrev pub version_1 : Version
 version_1 = record { number = 1; threads = 8; registers = 16; segments = most_segments; heap_words = 4194304; bytes = 16777216 }
 
@@ -32,8 +29,7 @@ unfoldable pub lines_bytes : List (ℕ × List ℕ) → ℕ
 lines_bytes [] = version_1.bytes
 lines_bytes (line ∷ lines) = if bytes_eq line.1 (codes "nmgc 3") then version_3.bytes else version_1.bytes
 
--- the most bytes of a script that begins like these bytes: 67,108,864 if its first line that isn't passed over is `nmgc 3`,
--- and otherwise 16,777,216
+-- the most bytes of a script that begins like these bytes
 abbrev pub most_bytes : List ℕ → ℕ
 most_bytes bytes = lines_bytes (kept_lines bytes)
 
@@ -50,34 +46,21 @@ pub record FitsConfig (most : ℕ) (c : Config) : Type 0 where
   pub quota : c.quota ≤ most_quota
   pub trigger : c.trigger ≤ most_trigger
 
--- the words of all segments and of one nursery for each thread
-abbrev pub total_words : Config → ℕ → ℕ
-total_words c threads = c.segments * c.words + threads * c.nursery
-
 -- the script is within the limits of its own version
 pub record FitsScript (s : Script) : Type 0 where
   pub version : s.version ≡ (version_of s.version).number
   pub config : FitsConfig (version_of s.version).segments s.config
   pub some_thread : 1 ≤ length s.threads
   pub threads : length s.threads ≤ (version_of s.version).threads
-  pub total : total_words s.config (length s.threads) ≤ (version_of s.version).heap_words
+  pub total : s.config.segments * s.config.words + length s.threads * s.config.nursery ≤ (version_of s.version).heap_words
   pub commands : All (λ program. All (Fits s.config.words) program) s.threads
   pub registers : All (λ program. All (HasRegistersBelow (version_of s.version).registers) program) s.threads
 
--- the length of each program is at most the greatest number of bytes of a script
-abbrev pub HasFewCommands : Script → Type 0
-HasFewCommands script = All (λ (program : List Command). length program ≤ most_script_bytes) script.threads
-
--- the version of a script's upgrade: version 2 for a script of version 1. Versions 2 and 3 stay, since version 3 has limits
--- that version 2 lacks.
-abbrev pub upgraded_number : ℕ → ℕ
-upgraded_number n = if n == 1 then version_2.number else n
-
--- the script in the version of its upgrade, with the same configuration and programs
+-- a script's upgrade: in version 2 if it has version 1, and otherwise itself, since version 3 has limits that version 2 lacks
 abbrev pub upgraded : Script → Script
-upgraded s = record { version = upgraded_number s.version; config = s.config; threads = s.threads }
+upgraded s = record { version = if s.version == 1 then version_2.number else s.version; config = s.config; threads = s.threads }
 
 -- the scripts that are run: within the limits, and no program has more commands than a script may have bytes
 pub record IsInLimits (script : Script) : Type 0 where
   pub fits : FitsScript script
-  pub few : HasFewCommands script
+  pub few : All (λ (program : List Command). length program ≤ most_script_bytes) script.threads

@@ -1,5 +1,5 @@
 -- The lines of a text that aren't passed over.
-use Rattle.std.specs.Prelude.{ℕ, ◌+◌, List, [], ◌∷◌, length, if◌then◌else◌}
+use Rattle.std.specs.Prelude.{ℕ, ◌+◌, List, [], ◌∷◌, if◌then◌else◌}
 use Rattle.nmgc_io.specs.Text.{lines_of, is_blank_or_comment}
 
 -- the lines that aren't passed over, each with its number, numbered from n: blank lines and comments are passed over
@@ -10,7 +10,3 @@ kept_from n (line ∷ lines) = if is_blank_or_comment line then kept_from (n + 1
 -- the lines of a text that aren't passed over, each with its number from 1; a line that is passed over still counts
 abbrev pub kept_lines : List ℕ → List (ℕ × List ℕ)
 kept_lines bytes = kept_from 1 (lines_of bytes)
-
--- the number of the line after the last, which is reported if a text ends too early
-abbrev pub end_of : List ℕ → ℕ
-end_of bytes = 1 + length (lines_of bytes)

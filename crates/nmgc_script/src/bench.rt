@@ -6,7 +6,7 @@
 //! closed at the next. `specs/Bench.antt` is the script. The code appends its commands in order, into memory that is
 //! allocated once. Easy to get wrong: a batch begins with nil in its register, or its list would end in the list before.
 ghost use Rattle.std.specs.Prelude.{◌≡◌, ◌≤◌, ◌++◌, replicate, IfOk, OnOk};
-ghost use Rattle.nmgc_script.specs.{Bench.most_batches, Bench.cell, Bench.batch, Bench.bench_program, Bench.bench_script, Limits.FitsScript, Limits.HasFewCommands};
+ghost use Rattle.nmgc_script.specs.{Parts.most_batches, Parts.cell, Bench.batch, Parts.bench_program, Bench.bench_script, Limits.FitsScript, Parts.HasFewCommands};
 
 use crate::{Config, Script};
 use nmgc_commands::{FixedOperands, Form, PackedCommand};

@@ -4,7 +4,7 @@
 //! first fault ends the reading, so the reported line is the first bad line. Easy to get wrong: if the text ends before the
 //! first section, the reported line is the line after the last, and lines that are passed over are counted too.
 ghost use Rattle.std.specs.Prelude.{◌≡◌, true, false, ℕ, ◌+◌, ◌<◌, ◌≤◌, ◌^◌, length, sum_by, IfErr, IfOk, MatchResult};
-ghost use Rattle.nmgc_script.specs.{Results.IsFaultOf, Faults.IsFaultOfText, Limits.FitsConfig, Limits.lines_bytes, Limits.most_bytes, Spelling.Spells, declared.fault.Cause.Cause as Why, declared.script.Script.Script as Spelled, Reading.kept_after, Reading.end_after, Text.kept_lines, Text.end_of, declared.fault.ScriptFault.TheVariants.NoMemory as no_memory};
+ghost use Rattle.nmgc_script.specs.{Results.IsFaultOf, Faults.IsFaultOfText, Limits.FitsConfig, Limits.lines_bytes, Limits.most_bytes, Spelling.Spells, declared.fault.Cause.Cause as Why, declared.script.Script.Script as Spelled, Reading.kept_after, Reading.end_after, Text.kept_lines, Parts.end_of, declared.fault.ScriptFault.TheVariants.NoMemory as no_memory};
 ghost use Rattle.nmgc_script.specs.Reading.{GivesAt, at_line, version_at, heap_at, programs_at, threads_at, script_at, placed};
 
 use crate::config::heap_config;

@@ -5,7 +5,7 @@
 //! are compared only if the guess is wrong, so only the time of a long script depends on it. Easy to get wrong: a verb that
 //! is missing in `VERBS` could be printed but not read.
 ghost use Rattle.std.specs.Prelude.{◌≡◌};
-ghost use Rattle.nmgc_script.specs.{Reading.Gives, Reading.first_named, Reading.verb_at, Spelling.verb_name};
+ghost use Rattle.nmgc_script.specs.{Reading.Gives, Reading.first_named, Reading.verb_at, Parts.verb_name};
 
 use crate::{Cause, LineFault};
 

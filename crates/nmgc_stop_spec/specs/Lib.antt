@@ -1,4 +1,5 @@
 pub mod Cycle
+pub mod Kept
 pub mod Nurseries
 pub mod Occupied
 pub mod Placed

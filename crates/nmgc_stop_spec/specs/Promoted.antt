@@ -9,21 +9,12 @@ use Rattle.nmgc_alloc.specs.AllocState.{AllocState, PlacesName}
 abbrev pub IsYoung : World → World → Name → Type 0
 IsYoung began w name = (node_of began name ≡ None) × IsSome (node_of w name)
 
--- an object that isn't new refers to the name
-abbrev pub IsHeldByOld : World → World → Name → Type 0
-IsHeldByOld began w name = (holder : Name) × IsSome (node_of began holder) × RefersTo w holder name
-
--- the name is a new weak pointer that is alive, or such a weak pointer refers to it in one of its three parts
-abbrev pub IsOfYoungWeak : World → World → Name → Type 0
-IsOfYoungWeak began w name = (weak : Name) × (parts : Parts) × IsYoung began w weak × IsAlive w weak parts × IsOfWeak weak parts name
-
--- the names at which the search for promoted objects begins: the roots, and the names to which an older object refers. They
--- also include the new weak pointers that are alive, with the names in their parts
+-- the search begins at roots, at names to which an older object refers, and at new weak pointers alive, with their parts
 abbrev pub IsFirstPromoted : World → World → Name → Type 0
-IsFirstPromoted began w name = IsRoot w name ⊎ (IsHeldByOld began w name ⊎ IsOfYoungWeak began w name)
+IsFirstPromoted began w name = IsRoot w name ⊎ (((holder : Name) × IsSome (node_of began holder) × RefersTo w holder name) ⊎
+    ((weak : Name) × (parts : Parts) × IsYoung began w weak × IsAlive w weak parts × IsOfWeak weak parts name))
 
--- the promotion rule. A new name is promoted if strong fields lead to it from the roots, from an object that isn't new, or
--- from a new weak pointer that is alive, or from a part of such a weak pointer
+-- the promotion rule: a new name is promoted if strong fields lead to it from a name at which the search begins
 abbrev pub IsPromoted : World → World → Name → Type 0
 IsPromoted began w name = IsYoung began w name × IsReached w (IsFirstPromoted began w) name
 

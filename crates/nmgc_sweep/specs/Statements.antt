@@ -5,7 +5,7 @@ use Rattle.nmgc_object.specs.declared.layout.Layout.{Layout}
 use Rattle.nmgc_segment.specs.{Segment.mark_of, Marks.epoch_of}
 use Rattle.nmgc_alloc.specs.{Numbered.nth, Numbered.Segments, Segments.Allocates, Segments.IsWaiting, Stands.StandsFor, Settled.AreSettled, AllocState.AllocState, Invariant.LieOnce, AllocState.NoneIs, AllocState.IsIn, AllocState.count_in, AllocState.cycle_begun, AllocState.cells, AllocState.PlacesName}
 use Rattle.nmgc_segment.specs.declared.state.State.TheVariants as stands
-use Rattle.nmgc_stop_spec.specs.{Cycle.IsDeadIn, Cycle.IsKeptObject, Cycle.IsSweptIn, Cycle.IsHadIn, Cycle.IsFreedIn, Cycle.Cycle, Waiting.AreAsNoted}
+use Rattle.nmgc_stop_spec.specs.{Cycle.IsDeadIn, Kept.IsKeptObject, Cycle.IsSweptIn, Cycle.IsHadIn, Cycle.IsFreedIn, Cycle.Cycle, Waiting.AreAsNoted}
 use Rattle.nmgc_sweep.specs.{Sweeping.AreKeptMarked, Seen.CycleSeen, Sweeper.Sweeper, Sweeper.AreLeft, Sweeper.HasNotes, Work.HasBegun, Work.IsAtWork}
 use Rattle.nmgc_name_lists.specs.Order.{in_order}
 

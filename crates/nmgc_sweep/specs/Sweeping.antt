@@ -4,7 +4,7 @@ use Rattle.nmgc_world_spec.specs.{Listing.ListsNumbers, Listing.Counts, declared
 use Rattle.nmgc_segment.specs.{Marks.epoch_of, Invariant.IsMarked}
 use Rattle.nmgc_segment.specs.declared.state.State.TheVariants as stands
 use Rattle.nmgc_alloc.specs.{Numbered.nth, Numbered.Segments, AllocState.AllocState, AllocState.LiesIn, AllocState.IsIn, AllocState.cells}
-use Rattle.nmgc_stop_spec.specs.{Cycle.IsSweptIn, Cycle.Cycle, Cycle.IsKeptIn, Cycle.IsDeadIn, Cycle.IsKeptObject, Waiting.AreAsNoted}
+use Rattle.nmgc_stop_spec.specs.{Cycle.IsSweptIn, Cycle.Cycle, Cycle.IsKeptIn, Cycle.IsDeadIn, Kept.IsKeptObject, Waiting.AreAsNoted}
 use Rattle.nmgc_sweep.specs.Seen.{SweeperSeen, CycleSeen}
 
 -- a list without duplicates, of items of any type: no item is at two positions. For names this is AreDistinct

@@ -5,7 +5,7 @@ use Rattle.nmgc_lists.specs.{declared.memory.NoMemory.NoMemory, laws.Items.conta
 use Rattle.nmgc_world_spec.specs.{declared.command.Command.Command, Command.Fits, Command.HasRegistersBelow}
 use Rattle.nmgc_limits.specs.declared.mutators.TheConstants.{REGISTERS}
 use Rattle.nmgc_io.specs.Text.{lines_of, is_blank_or_comment, spaced}
-use Rattle.nmgc_script.specs.{declared.fault.Cause.Cause, declared.fault.ScriptFault.ScriptFault, declared.script.Config.Config, declared.script.Script.Script, Limits.FitsScript, Text.kept_from, Text.kept_lines, Spelling.command_words, Spelling.version_words, Spelling.heap_words, Spelling.section_words, Spelling.program_lines, Spelling.section_lines, Spelling.Spells, laws.Lines.IsLine, laws.Lines.IsKept, laws.Lines.made_kept, laws.Lines.made_short, laws.Lines.command_line, laws.Versions.bench_sizes_fit}
+use Rattle.nmgc_script.specs.{declared.fault.Cause.Cause, declared.fault.ScriptFault.ScriptFault, declared.script.Config.Config, declared.script.Script.Script, Limits.FitsScript, Text.kept_from, Text.kept_lines, Spelling.command_words, Parts.version_words, Spelling.heap_words, Parts.section_words, Parts.program_lines, Spelling.section_lines, Spelling.Spells, laws.Lines.IsLine, laws.Lines.IsKept, laws.Lines.made_kept, laws.Lines.made_short, laws.Lines.command_line, laws.Versions.bench_sizes_fit}
 use Rattle.nmgc_script.specs.declared.fault.ScriptFault.TheVariants as script_fault
 use Rattle.nmgc_trace_checker.specs.Reading.{script_head, IsLastIf, IsLastOf, IsSpelled, IsSpelledIf}
 use Rattle.nmgc_trace_checker.proofs.LineWords.{command_count}

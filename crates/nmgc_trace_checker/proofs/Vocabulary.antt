@@ -9,7 +9,7 @@ pub use Rattle.nmgc_limits.specs.declared.mutators.TheConstants.{REGISTERS, SHAR
 pub use Rattle.nmgc_lists.specs.{declared.memory.NoMemory.NoMemory, laws.Items.contains_cases, laws.Items.contains_head, laws.Items.contains_tail, laws.Items.nothing_in, laws.Items.nothing_in as nothing, laws.Items.same_first as head_of, laws.Truths.chosen, laws.Truths.cond_true, laws.Truths.unmarked as is_not}
 pub use Rattle.nmgc_object.specs.Words.{IsName}
 pub use Rattle.nmgc_io.specs.Text.{is_blank_or_comment, lines_of, onto_first, tokens_of, spaced}
-pub use Rattle.nmgc_script.specs.{Limits.FitsConfig, Limits.FitsScript, Spelling.Spells, Spelling.command_words, Spelling.heap_words, Spelling.operand_word, Spelling.program_lines, Spelling.register_word, Spelling.section_lines, Spelling.section_words, Spelling.version_words, Text.kept_lines, declared.fault.Cause.Cause, declared.fault.ScriptFault.ScriptFault, declared.script.Config.Config, declared.script.Script.Script}
+pub use Rattle.nmgc_script.specs.{Limits.FitsConfig, Limits.FitsScript, Spelling.Spells, Spelling.command_words, Spelling.heap_words, Spelling.operand_word, Parts.program_lines, Spelling.register_word, Spelling.section_lines, Parts.section_words, Parts.version_words, Text.kept_lines, declared.fault.Cause.Cause, declared.fault.ScriptFault.ScriptFault, declared.script.Config.Config, declared.script.Script.Script}
 pub use Rattle.nmgc_snapshot_laws.specs.{Machine.IsPossible, Machine.Passes, Machine.after_take, Run.IsExact, Run.Runs, State.State, State.is_new, State.names_of, State.opening, State.with_mark, declared.event.Event.Event, laws.Common.runs_join, laws.Runs.snapshot_theorem}
 pub use Rattle.nmgc_barrier_checker.specs.{Rows.copied, Rows.filled, Watching.AreDone, Watching.CanAct, declared.cycle_result.CycleResult.CycleResult, declared.rows.Copying.Copying, declared.rows.Filling.Filling, declared.watch.Watch.Watch}
 pub use Rattle.nmgc_world_laws.specs.laws.{Deaths.closed_world, NewWorlds.new_is_world, WorldSteps.step_keeps_world}

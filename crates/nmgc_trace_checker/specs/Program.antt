@@ -10,7 +10,8 @@
 -- - `line 110` in place of `line 11`, or the next line: `report_text` and `verdict_text` print the outcome's number. By
 --   `IsReport` or `IsVerdict` it is the number of the first line that can't happen.
 -- - The output on standard error: nothing is written there unless the output failed (`silent` of `Ran`).
--- - Always `no memory`, or always `can't be read`: no clause refuses these, since the kit's readers count no faults; tests do.
+-- - Always `no memory`: no clause refuses it. Always `can't be read`: none, since the kit's readers count no faults. Tests do.
+-- - Another number of dues, no text beside the line since which a name is due, or other words of an error: rows refuse these.
 use Rattle.std.specs.Prelude.{◌≡◌, ◌⊎◌, ◌≤◌, ℕ, List, [], ◌∷◌, ◌++◌, map, codes, string_bytes, Option, Result, Ok, Err, Bool, Contains, if◌then◌else◌}
 use Rattle.std.specs.{Str.bytes_eq, Io.KnownBytes.Appends}
 use Rattle.nmgc_io.specs.Counts.{AppendsFront}
@@ -64,7 +65,7 @@ IsJudged known is_asked said (Err f) = IsFault (IsTooLong texts_of known) f × I
 abbrev pub status_of : Outcome → Status
 status_of outcome = if is_passed_of outcome then status.Passed else status.Refused
 
--- the text and the status of a result. The words of an error are the system's. A fault of the output has no text there
+-- the text and the status of a result. The words of an error can be any. A fault of the output has no text there
 abbrev pub IsResult : Judged → List ℕ → Status → Type 0
 IsResult (Ok outcome) text s = (text ≡ outcome_text outcome) × (s ≡ status_of outcome)
 IsResult (Err fault.NoMemory) text s = (text ≡ codes "no memory") × (s ≡ status.NoMemory)
@@ -72,7 +73,7 @@ IsResult (Err (fault.Io error)) text s = ((words : List ℕ) × (text ≡ codes 
 IsResult (Err fault.TooLong) text s = (text ≡ codes "there are too many lines") × (s ≡ status.Refused)
 IsResult (Err fault.Unwritten) text s = ⊥
 
--- the text and the status shown for a result: the result's, or `no memory` and its status if the text takes more than there is
+-- the text and the status shown for a result: the result's, or `no memory` and its status, at any time
 abbrev pub IsShown : Judged → List ℕ → Status → Type 0
 IsShown judged text s = IsResult judged text s ⊎ IsResult (Err fault.NoMemory) text s
 

@@ -1,4 +1,4 @@
--- The texts of results: each text that the program prints of a trace is a function of the trace's result.
+-- The texts of outcomes: the text that the program prints is a function of the outcome. `Program` has the texts of faults.
 use Rattle.std.specs.Prelude.{ℕ, List, [], ◌++◌, codes, decimal, string_bytes, Option, Some, None, ◌==◌, if◌then◌else◌}
 use Rattle.std.specs.{List.flat_map, Option.option_map}
 use Rattle.nmgc_world_spec.specs.declared.value.Name.{Name}

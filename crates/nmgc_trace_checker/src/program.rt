@@ -45,10 +45,10 @@ pub trait Traces {
 }
 
 /// Judges the trace of each argument, writes a line for each to the output, and returns the status: the gravest of all. While
-/// the trace of the argument `--live` comes, each of its empty lines is answered by `ok` once all lines before it have
-/// happened. Without arguments writes the possible arguments. If the output fails, it has a front of this text, the status
-/// is `Unwritten`, and `errors` gets a line. Otherwise nothing is written to `errors`. Takes memory for one trace at
-/// a time (`outcome_of`), and for one line of output.
+/// the trace of the argument `--live` comes, each empty line of format 2 is answered by `ok` if all lines before it have
+/// happened. Without arguments, or for an argument that is no text, writes the possible arguments. If the output fails, it has a
+/// front of this text, the status is `Unwritten`, and `errors` gets a line. Otherwise nothing is written to `errors`. Takes
+/// memory for one trace at a time (`outcome_of`), and for one line of output.
 pub fn nmgc_trace<T: Traces, K: Sink, E: Sink>(
     alloc: Global,
     arguments: &Arguments,

@@ -1,5 +1,5 @@
 -- The effect of a change on a node, and the reply. Refusals come in the order of the cases, and leave the node as it is.
-use Rattle.std.specs.Prelude.{ℕ, ◌-◌, List, [], ◌∷◌, ◌++◌, length, slice_get, slice_set, take, Option, Some, None, Bool, true, false, ◌==◌, ◌&&◌, nat_lt, if◌then◌else◌}
+use Rattle.std.specs.Prelude.{ℕ, ◌-◌, List, [], ◌∷◌, ◌++◌, length, slice_get, slice_set, take, Option, Some, None, Bool, true, false, ◌==◌, ◌&&◌, nat_lt, if◌then◌else◌, option_map}
 use Rattle.nmgc_world_spec.specs.{declared.value.Name.Name, declared.value.Value.Value, declared.node.Parts.Parts, declared.node.Node.Node, declared.node.Node.TheVariants.Con, declared.node.Node.TheVariants.Var, declared.node.Node.TheVariants.Arr, declared.node.Node.TheVariants.Thunk, declared.node.Node.TheVariants.Weak, declared.node.Node.TheVariants.Stack, declared.command.Reply.Reply, declared.change.Change.Change}
 use Rattle.nmgc_world_spec.specs.declared.value.Value.TheVariants as value
 use Rattle.nmgc_world_spec.specs.declared.command.Reply.TheVariants.{Fine, Yes, No, Updated, Already, Given, NoField, WrongKind, NotOwner, Fixed, Dead, Nothing, StackFull, StackEmpty}
@@ -16,32 +16,26 @@ is_same (value.Number m) (value.Number n) = m == n
 is_same (value.Ref a) (value.Ref b) = is_same_name a b
 is_same _ _ = false
 
--- the reply that gives this value, or the refusal `refusal` if there is no value
-abbrev pub given_or : Reply → Option Value → Reply
-given_or refusal None = refusal
-given_or refusal (Some v) = Given v
+-- what `give` makes of the value, if there is one, or else `none`
+abbrev pub if_there : {A B : Type 0} → B → (A → B) → Option A → B
+if_there none give None = none
+if_there none give (Some x) = give x
 
 -- the answer of `get`: the field at this index of a constructor, a variable or an array, or else a refusal
 abbrev pub field_read : Node → ℕ → Reply
-field_read (Con tag values) index = given_or NoField (slice_get values index)
-field_read (Var v) index = given_or NoField (slice_get (v ∷ []) index)
-field_read (Arr values) index = given_or NoField (slice_get values index)
-field_read (Thunk free result) index = WrongKind
-field_read (Weak parts) index = WrongKind
-field_read (Stack size values) index = WrongKind
+field_read (Con tag values) index = if_there NoField Given (slice_get values index)
+field_read (Var v) index = if_there NoField Given (slice_get (v ∷ []) index)
+field_read (Arr values) index = if_there NoField Given (slice_get values index)
+field_read _ index = WrongKind
 
 -- the answer of `force`: the result of a thunk, or else a refusal
 abbrev pub result_read : Node → Reply
-result_read (Thunk free result) = given_or Nothing result
+result_read (Thunk free result) = if_there Nothing Given result
 result_read _ = WrongKind
-
-abbrev pub value_part : Option Parts → Option Value
-value_part None = None
-value_part (Some p) = Some p.value
 
 -- the answer of `deref`: the value of a weak pointer that is alive, or else a refusal
 abbrev pub value_read : Node → Reply
-value_read (Weak parts) = given_or Dead (value_part parts)
+value_read (Weak parts) = if_there Dead Given (option_map (λ (p : Parts). p.value) parts)
 value_read _ = WrongKind
 
 -- the effect of `set`: a variable or an array with this value at the index, or else the same node and a refusal
@@ -49,27 +43,19 @@ abbrev pub field_set : Node → ℕ → Value → Node × Reply
 field_set (Con tag values) index v = (Con tag values, Fixed)
 field_set (Var old) index v = if index == 0 then (Var v, Fine) else (Var old, NoField)
 field_set (Arr values) index v = if nat_lt index (length values) then (Arr (slice_set values index v), Fine) else (Arr values, NoField)
-field_set (Thunk free result) index v = (Thunk free result, WrongKind)
-field_set (Weak parts) index v = (Weak parts, WrongKind)
-field_set (Stack size values) index v = (Stack size values, WrongKind)
+field_set node index v = (node, WrongKind)
 
--- the effect of `cas` on a field that holds `old`: the written node if `old` is the expected value, or else the kept node
-abbrev pub exchanged : Value → Value → Node → Node → Node × Reply
-exchanged old expected kept written = if is_same old expected then (written, Yes) else (kept, No)
-
--- the effect of `cas` on a field: refused if the field doesn't exist, and otherwise by comparison with the expected value
+-- the effect of `cas` on a field: the written node if the field holds the expected value, or else the kept node
 abbrev pub exchanged_at : Option Value → Value → Node → Node → Node × Reply
 exchanged_at None expected kept written = (kept, NoField)
-exchanged_at (Some old) expected kept written = exchanged old expected kept written
+exchanged_at (Some old) expected kept written = if is_same old expected then (written, Yes) else (kept, No)
 
 -- the effect of `cas`: if a variable or an array holds the expected value at the index, it gets the other value there
 abbrev pub field_exchanged : Node → ℕ → Value → Value → Node × Reply
 field_exchanged (Con tag values) index expected v = (Con tag values, Fixed)
 field_exchanged (Var old) index expected v = exchanged_at (slice_get (old ∷ []) index) expected (Var old) (Var v)
 field_exchanged (Arr values) index expected v = exchanged_at (slice_get values index) expected (Arr values) (Arr (slice_set values index v))
-field_exchanged (Thunk free result) index expected v = (Thunk free result, WrongKind)
-field_exchanged (Weak parts) index expected v = (Weak parts, WrongKind)
-field_exchanged (Stack size values) index expected v = (Stack size values, WrongKind)
+field_exchanged node index expected v = (node, WrongKind)
 
 -- the effect of `update`: a thunk without a result gets this value as its result
 abbrev pub thunk_updated : Node → Value → Node × Reply
@@ -84,16 +70,13 @@ stack_pushed own (Stack size values) v =
     (Stack size values, NotOwner)
 stack_pushed own node v = (node, WrongKind)
 
--- all values except the last; `last_of` is the last value, if there is one
-abbrev pub without_last : List Value → List Value
-without_last values = take (length values - 1) values
-
+-- the last value, if there is one
 abbrev pub last_of : List Value → Option Value
 last_of values = slice_get values (length values - 1)
 
 -- the effect of `pop`: a stack loses its top, which the reply gives, if its maker asks (`own`)
 abbrev pub stack_popped : Bool → Node → Node × Reply
-stack_popped own (Stack size values) = if own then (Stack size (without_last values), given_or StackEmpty (last_of values)) else (Stack size values, NotOwner)
+stack_popped own (Stack size values) = if own then (Stack size (take (length values - 1) values), if_there StackEmpty Given (last_of values)) else (Stack size values, NotOwner)
 stack_popped own node = (node, WrongKind)
 
 -- the effect of `finalise`: a weak pointer that is alive dies, and the reply gives its finaliser

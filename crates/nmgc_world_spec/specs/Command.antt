@@ -4,47 +4,37 @@
 use Rattle.std.specs.Prelude.{ℕ, ◌+◌, ◌<◌, ◌≤◌, ◌^◌, length, All}
 use Rattle.nmgc_limits.specs.declared.mutators.TheConstants.{REGISTERS}
 use Rattle.nmgc_world_spec.specs.{declared.command.Operand.Operand, declared.command.Operand.TheVariants.Register, declared.command.Operand.TheVariants.Shared, declared.command.Command.Command}
-use Rattle.nmgc_world_spec.specs.declared.command.Command.TheVariants.{Num, Nil, Mov, Con, Var, Arr, Thunk, Weak, Stack, Get, Set, Cas, Update, Force, Push, Pop, Deref, Finalise, NextFin, Show, Same, Yield, Collect, Full}
-
--- the register's number is below the bound
-abbrev pub IsRegisterBelow : ℕ → ℕ → Type 0
-IsRegisterBelow bound r = r < bound
+use Rattle.nmgc_world_spec.specs.declared.command.Command.TheVariants.{Num, Nil, Mov, Con, Var, Arr, Thunk, Weak, Stack, Get, Set, Cas, Update, Force, Push, Pop, Deref, Finalise, NextFin, Show, Same}
 
 -- the number of the operand's register is below the bound, if the operand is a register
 abbrev pub IsOperandBelow : ℕ → Operand → Type 0
-IsOperandBelow bound (Register r) = IsRegisterBelow bound r
+IsOperandBelow bound (Register r) = r < bound
 IsOperandBelow bound Shared = Unit {0}
 
 -- the numbers of all registers that the command names are below the bound
 abbrev pub HasRegistersBelow : ℕ → Command → Type 0
-HasRegistersBelow b (Num dest number) = IsRegisterBelow b dest
-HasRegistersBelow b (Nil dest) = IsRegisterBelow b dest
-HasRegistersBelow b (Mov dest value) = IsRegisterBelow b dest × IsOperandBelow b value
-HasRegistersBelow b (Con dest tag fields) = IsRegisterBelow b dest × All (IsOperandBelow b) fields
-HasRegistersBelow b (Var dest value) = IsRegisterBelow b dest × IsOperandBelow b value
-HasRegistersBelow b (Arr dest count value) = IsRegisterBelow b dest × IsOperandBelow b value
-HasRegistersBelow b (Thunk dest free) = IsRegisterBelow b dest × All (IsOperandBelow b) free
-HasRegistersBelow b (Weak dest key value finaliser) = IsRegisterBelow b dest × IsOperandBelow b key × IsOperandBelow b value × IsOperandBelow b finaliser
-HasRegistersBelow b (Stack dest size) = IsRegisterBelow b dest
-HasRegistersBelow b (Get dest object index) = IsRegisterBelow b dest × IsOperandBelow b object
+HasRegistersBelow b (Num dest number) = dest < b
+HasRegistersBelow b (Nil dest) = dest < b
+HasRegistersBelow b (Mov dest value) = (dest < b) × IsOperandBelow b value
+HasRegistersBelow b (Con dest tag fields) = (dest < b) × All (IsOperandBelow b) fields
+HasRegistersBelow b (Var dest value) = (dest < b) × IsOperandBelow b value
+HasRegistersBelow b (Arr dest count value) = (dest < b) × IsOperandBelow b value
+HasRegistersBelow b (Thunk dest free) = (dest < b) × All (IsOperandBelow b) free
+HasRegistersBelow b (Weak dest key value finaliser) = (dest < b) × IsOperandBelow b key × IsOperandBelow b value × IsOperandBelow b finaliser
+HasRegistersBelow b (Stack dest size) = dest < b
+HasRegistersBelow b (Get dest object index) = (dest < b) × IsOperandBelow b object
 HasRegistersBelow b (Set object index value) = IsOperandBelow b object × IsOperandBelow b value
 HasRegistersBelow b (Cas object index expected value) = IsOperandBelow b object × IsOperandBelow b expected × IsOperandBelow b value
 HasRegistersBelow b (Update object value) = IsOperandBelow b object × IsOperandBelow b value
-HasRegistersBelow b (Force dest object) = IsRegisterBelow b dest × IsOperandBelow b object
+HasRegistersBelow b (Force dest object) = (dest < b) × IsOperandBelow b object
 HasRegistersBelow b (Push object value) = IsOperandBelow b object × IsOperandBelow b value
-HasRegistersBelow b (Pop dest object) = IsRegisterBelow b dest × IsOperandBelow b object
-HasRegistersBelow b (Deref dest object) = IsRegisterBelow b dest × IsOperandBelow b object
-HasRegistersBelow b (Finalise dest object) = IsRegisterBelow b dest × IsOperandBelow b object
-HasRegistersBelow b (NextFin dest) = IsRegisterBelow b dest
+HasRegistersBelow b (Pop dest object) = (dest < b) × IsOperandBelow b object
+HasRegistersBelow b (Deref dest object) = (dest < b) × IsOperandBelow b object
+HasRegistersBelow b (Finalise dest object) = (dest < b) × IsOperandBelow b object
+HasRegistersBelow b (NextFin dest) = dest < b
 HasRegistersBelow b (Show value) = IsOperandBelow b value
 HasRegistersBelow b (Same left right) = IsOperandBelow b left × IsOperandBelow b right
-HasRegistersBelow b Yield = Unit {0}
-HasRegistersBelow b Collect = Unit {0}
-HasRegistersBelow b Full = Unit {0}
-
--- all registers of the command exist
-abbrev pub HasRegisters : Command → Type 0
-HasRegisters = HasRegistersBelow REGISTERS
+HasRegistersBelow b _ = Unit {0}
 
 -- the numbers of a command are within their limits
 abbrev pub HasNumbers : Command → Type 0
@@ -70,6 +60,6 @@ words_made _ = 0
 
 -- a command fits a script: its registers exist, its numbers are within limits, and its object fits a segment of `words` words
 pub record Fits (words : ℕ) (c : Command) : Type 0 where
-  pub registers : HasRegisters c
+  pub registers : HasRegistersBelow REGISTERS c
   pub numbers : HasNumbers c
   pub size : words_made c ≤ words

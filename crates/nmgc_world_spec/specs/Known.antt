@@ -1,6 +1,6 @@
 -- Worlds whose names are all known, and the commands that such a world can take.
 use Rattle.std.specs.Prelude.{◌≡◌, ℕ, ◌+◌, ◌<◌, ◌≤◌, ◌^◌, List, length, Option, Some, None, IsSome, IfSome, All, ◌-◌}
-use Rattle.nmgc_world_spec.specs.{declared.value.Name.Name, declared.value.Value.Value, declared.node.Node.Node, declared.node.Node.TheVariants.Stack, declared.command.Reply.Reply, declared.command.Reply.TheVariants.Given, declared.change.Change.Change, declared.command.Operand.Operand, declared.command.Command.Command, World.World, World.state_of, World.serial_of, World.node_of, Command.HasRegisters, World.held_by, World.IsShared, Command.IsRegisterBelow, Command.IsOperandBelow}
+use Rattle.nmgc_world_spec.specs.{declared.value.Name.Name, declared.value.Value.Value, declared.node.Node.Node, declared.node.Node.TheVariants.Stack, declared.command.Reply.Reply, declared.command.Reply.TheVariants.Given, declared.change.Change.Change, declared.command.Operand.Operand, declared.command.Command.Command, World.World, World.state_of, World.serial_of, World.node_of, Command.HasRegistersBelow, World.held_by, World.IsShared, Command.IsOperandBelow}
 use Rattle.nmgc_limits.specs.declared.mutators.TheConstants.{REGISTERS, MAKERS}
 use Rattle.nmgc_world_spec.specs.declared.value.Value.TheVariants as value
 use Rattle.nmgc_world_spec.specs.declared.change.Change.TheVariants as change
@@ -61,6 +61,14 @@ pub record Grows (old new : World) (m : ℕ) : Type 0 where
   pub serials : (k : ℕ) → serial_of old k ≤ serial_of new k
   pub by_one : serial_of new m ≤ serial_of old m + 1
   pub names : (name : Name) → IsSome (node_of old name) → IsSome (node_of new name)
+
+-- the register's number is below the bound
+abbrev pub IsRegisterBelow : ℕ → ℕ → Type 0
+IsRegisterBelow bound r = r < bound
+
+-- all registers of the command exist
+abbrev pub HasRegisters : Command → Type 0
+HasRegisters = HasRegistersBelow REGISTERS
 
 -- the register exists
 abbrev pub IsRegister : ℕ → Type 0

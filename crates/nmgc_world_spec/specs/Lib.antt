@@ -6,6 +6,7 @@ pub mod Known
 pub mod Listing
 pub mod Order
 pub mod Owed
+pub mod Pieces
 pub mod Reach
 pub mod Step
 pub mod Wide

@@ -5,8 +5,7 @@ use Rattle.std.specs.Prelude.{◌≡◌, ◌⊎◌, ℕ, zero, suc, ◌<◌, Lis
 use Rattle.nmgc_world_spec.specs.{declared.value.Name.Name, declared.value.Value.Value, declared.node.Parts.Parts, declared.node.Node.Node, declared.node.Node.TheVariants.Con, declared.node.Node.TheVariants.Var, declared.node.Node.TheVariants.Arr, declared.node.Node.TheVariants.Thunk, declared.node.Node.TheVariants.Weak, declared.node.Node.TheVariants.Stack, declared.mutator_state.MutatorState.MutatorState, World.World, World.state_of, World.node_of, Step.shared_name, Step.with_state, Step.with_node}
 use Rattle.nmgc_world_spec.specs.declared.value.Value.TheVariants as value
 
--- the values in a node's strong fields: those in a constructor, variable, array or stack; a thunk's result, or else its free
--- variables; none of a weak pointer
+-- the values in a node's strong fields: of a thunk its result, or else its free variables; of a weak pointer none
 abbrev pub strong_fields : Node → List Value
 strong_fields (Con tag values) = values
 strong_fields (Var v) = v ∷ []
@@ -22,15 +21,11 @@ RefersTo w name target = (node : Node) × (node_of w name ≡ Some node) × Cont
 
 -- the value in a node's strong field at a position, if it has such a field
 abbrev pub strong_at : Node → ℕ → Option Value
-strong_at (Con tag values) i = slice_get values i
-strong_at (Var v) i = slice_get (v ∷ []) i
-strong_at (Arr values) i = slice_get values i
 strong_at (Thunk free None) zero = None
 strong_at (Thunk free None) (suc i) = slice_get free i
 strong_at (Thunk free (Some result)) zero = Some result
 strong_at (Thunk free (Some result)) (suc i) = None
-strong_at (Weak parts) i = None
-strong_at (Stack size values) i = slice_get values i
+strong_at node i = slice_get (strong_fields node) i
 
 -- the name's node has this value in the strong field at a position
 pub record HasStrongField (w : World) (name : Name) (i : ℕ) (v : Value) : Type 0 where
@@ -53,18 +48,14 @@ IsAlive w weak parts = node_of w weak ≡ Some (Weak (Some parts))
 
 -- the value is nil or a number
 abbrev pub IsPlain : Value → Type 0
-IsPlain value.Nil = Unit {0}
-IsPlain (value.Number n) = Unit {0}
 IsPlain (value.Ref name) = ⊥
+IsPlain _ = Unit {0}
 
 -- the target is the weak pointer itself, or its value or its finaliser refers to the target
 abbrev pub IsKeptBy : Name → Parts → Name → Type 0
 IsKeptBy weak parts target = (target ≡ weak) ⊎ (parts.value ≡ value.Ref target) ⊎ (parts.finaliser ≡ value.Ref target)
 
--- the live names of a world with further names: the least set that follows strong fields and has all of these. It has g, the
--- names in registers and finaliser queues, and the further names in the map. It also has each weak pointer that is alive and
--- has a plain or live key, and this weak pointer's value and finaliser. (GHC's rule: a live key keeps value and finaliser,
--- even if nothing refers to the weak pointer.)
+-- the live names, the least set with roots, further names, strong fields, and what weak pointers with plain or live keys keep
 pub data IsLive (w : World) (extra : List Name) : Name → Type 0 where
   root : (name : Name) → IsRoot w name → IsLive w extra name
   further : (name : Name) → Contains extra name → IsSome (node_of w name) → IsLive w extra name
@@ -107,8 +98,7 @@ pub record Lists (P : Name → Type 0) (names : List Name) : Type 0 where
 -- a mutator's state with a finaliser added at the end of its queue; a finaliser that is nil isn't added
 abbrev pub queued : MutatorState → Value → MutatorState
 queued state value.Nil = state
-queued state (value.Number n) = record state { queue = state.queue ++ value.Number n ∷ [] }
-queued state (value.Ref name) = record state { queue = state.queue ++ value.Ref name ∷ [] }
+queued state v = record state { queue = state.queue ++ v ∷ [] }
 
 -- the world after one weak pointer died, with its finaliser, unless it is nil, at the end of its maker's queue
 abbrev pub closed_by : World → Name → Option Node → World
@@ -117,8 +107,7 @@ closed_by w weak (Some (Weak (Some parts))) =
     with_state after weak.maker (queued (state_of after weak.maker) parts.finaliser)
 closed_by w weak other = w
 
--- the closing of a world: each weak pointer of the list dies, in the order of the list. Its finaliser, unless it is nil,
--- joins the end of the queue of the weak pointer's maker. Runs close with the dead weak pointers in the order of names.
+-- the closing of a world: each weak pointer of the list dies, in the order of the list, and its finaliser is queued
 abbrev pub closed : World → List Name → World
 closed w [] = w
 closed w (weak ∷ weaks) = closed (closed_by w weak (node_of w weak)) weaks

@@ -5,8 +5,7 @@ use Rattle.nmgc_world_spec.specs.{declared.value.Name.Name, declared.value.Value
 use Rattle.nmgc_world_spec.specs.declared.value.Value.TheVariants as value
 use Rattle.nmgc_limits.specs.declared.mutators.TheConstants.{REGISTERS, SHARED_MAKER, SHARED_SLOTS}
 
--- a world, the state of the reference heap: a finite map from names to nodes, and the state of each mutator. It has g, and
--- for each mutator its registers, its finaliser queue and its objects by serial
+-- a world, the reference heap's state: the node of g, and each mutator's registers, finaliser queue and nodes by serial
 pub record World : Type 0 where
   pub shared : Node
   pub mutators : List MutatorState

@@ -1,6 +1,6 @@
 -- The effect of a change in two parts: whether its reply says that it is done, and the node that it leaves then.
 use Rattle.std.specs.Prelude.{ℕ, [], ◌∷◌, ◌++◌, length, slice_get, slice_set, Option, Some, None, Bool, true, false, nat_lt, if◌then◌else◌}
-use Rattle.nmgc_world_spec.specs.{declared.value.Value.Value, declared.node.Node.Node, declared.node.Node.TheVariants.Con, declared.node.Node.TheVariants.Var, declared.node.Node.TheVariants.Arr, declared.node.Node.TheVariants.Thunk, declared.node.Node.TheVariants.Weak, declared.node.Node.TheVariants.Stack, declared.command.Reply.Reply, declared.change.Change.Change, declared.command.Reply.TheVariants.Fine, declared.command.Reply.TheVariants.Yes, declared.command.Reply.TheVariants.Updated, declared.command.Reply.TheVariants.Given, World.World, Change.without_last, Step.change_object}
+use Rattle.nmgc_world_spec.specs.{declared.value.Value.Value, declared.node.Node.Node, declared.node.Node.TheVariants.Con, declared.node.Node.TheVariants.Var, declared.node.Node.TheVariants.Arr, declared.node.Node.TheVariants.Thunk, declared.node.Node.TheVariants.Weak, declared.node.Node.TheVariants.Stack, declared.command.Reply.Reply, declared.change.Change.Change, declared.command.Command.Command, declared.command.Command.TheVariants.Set, declared.command.Command.TheVariants.Cas, declared.command.Command.TheVariants.Update, declared.command.Command.TheVariants.Push, declared.command.Command.TheVariants.Pop, declared.command.Command.TheVariants.Finalise, declared.command.Reply.TheVariants.Fine, declared.command.Reply.TheVariants.Yes, declared.command.Reply.TheVariants.Updated, declared.command.Reply.TheVariants.Given, World.World, Pieces.without_last, Step.value_for, Step.change_object}
 use Rattle.nmgc_world_spec.specs.declared.change.Change.TheVariants as change
 
 -- the field at this index, if the node is a constructor, a variable or an array and has such a field; otherwise none
@@ -57,6 +57,20 @@ written (change.Update v) node = result_written node v
 written (change.Push m v) node = value_pushed node v
 written (change.Pop m) node = top_dropped node
 written change.Finalise node = killed node
+
+-- the write that a `set` or `cas` asks for, with the value of its object operand; none for other commands
+abbrev pub asked_write : World → ℕ → Command → Option (Value × Change)
+asked_write w m (Set object index v) = Some (value_for w m object, change.Set index (value_for w m v))
+asked_write w m (Cas object index expected v) = Some (value_for w m object, change.Exchange index (value_for w m expected) (value_for w m v))
+asked_write w m _ = None
+
+-- the change that a command asks for, with the value of its object operand; only six commands ask for a change
+abbrev pub asked : World → ℕ → Command → Option (Value × Change)
+asked w m (Update object v) = Some (value_for w m object, change.Update (value_for w m v))
+asked w m (Push object v) = Some (value_for w m object, change.Push m (value_for w m v))
+asked w m (Pop dest object) = Some (value_for w m object, change.Pop m)
+asked w m (Finalise dest object) = Some (value_for w m object, change.Finalise)
+asked w m c = asked_write w m c
 
 -- the world after the change that a command asks for, and the reply; without such a change the world stays as it is
 abbrev pub change_asked : World → Option (Value × Change) → World × Reply

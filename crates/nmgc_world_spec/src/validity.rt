@@ -2,7 +2,7 @@
 //!
 //! A script never asks for a register that doesn't exist. A caller that gets commands from elsewhere has to check them.
 ghost use Rattle.std.specs.Prelude.{◌↔◌, IsTrue, All};
-ghost use Rattle.nmgc_world_spec.specs.{Command.HasRegisters, Known.IsOperand, Known.IsRegister};
+ghost use Rattle.nmgc_world_spec.specs.{Known.HasRegisters, Known.IsOperand, Known.IsRegister};
 
 use crate::{Command, Operand};
 use nmgc_limits::REGISTERS;

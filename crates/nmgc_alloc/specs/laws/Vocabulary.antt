@@ -1,5 +1,5 @@
 -- Every name of std, of the crates below and of this crate's definitions that the lemmas of these laws use.
-pub use Rattle.nmgc_alloc.specs.{AllocState.AllocState, AllocState.AreNames, AllocState.Cells, AllocState.Exists, Invariant.HasBlock, AllocState.HoldsKept, Invariant.IsAllocState, AllocState.IsEmpty, AllocState.IsFirst, AllocState.IsFirstEmpty, AllocState.IsFull, AllocState.IsIn, AllocState.IsNext, AllocState.IsOf, AllocState.IsPlaced, AllocState.IsSwept, AllocState.IsTarget, AllocState.KeepsBlocks, Invariant.LieOnce, AllocState.LiesIn, Invariant.LiesNowhere, AllocState.NoneIs, AllocState.Opens, AllocState.PlacesName, AllocState.Sweeps, AllocState.SweepsEach, AllocState.SweepsSome, AllocState.all_empty, AllocState.all_retired, AllocState.cells, AllocState.count_in, AllocState.cycle_begun, AllocState.name_in, AllocState.no_cells, AllocState.prepared_state, AllocState.restated, AllocState.retired_state, AllocState.with_cells, Blocks.HasAt, Blocks.IsCarried, Blocks.IsMarkedAt, Blocks.IsSnapshotAt, Blocks.IsUsedAt, Blocks.MarksPlace, Blocks.SameMarked, Blocks.blocks_that, Blocks.in_snapshot, Blocks.is_carried, Blocks.is_marked, Blocks.marked_count, Blocks.snapshot_count, CycleSteps.carried_in, CycleSteps.carried_over, CycleSteps.prepared, CycleSteps.prepared_snap, CycleSteps.retired, Numbered.HasNumber, Numbered.Segments, Numbered.block_place, Numbered.is, Numbered.nth, Reserve.HasLeft, Reserve.KeepsReserve, Reserve.free_count, Reserve.pair, Segments.Allocates, Segments.HasNoCurrent, Segments.HasNone, Segments.HasRoom, Segments.IsBlockAt, Segments.IsChosen, Segments.IsCurrent, Segments.IsMember, Segments.IsOwn, Segments.IsSegments, Segments.IsToMark, Segments.MarksBlock, Segments.SweepsNext, Segments.SweepsSegment, Segments.TakesBlock, Segments.all_free, Segments.as_current, Segments.filled_count, Segments.marked_if, Stands.Shows, Stands.StandsFor, Invariant.Writes}
+pub use Rattle.nmgc_alloc.specs.{AllocState.AllocState, AllocState.AreNames, AllocState.Cells, AllocState.Exists, Invariant.HasBlock, AllocState.HoldsKept, Invariant.IsAllocState, AllocState.IsEmpty, AllocState.IsFirst, AllocState.IsFirstEmpty, AllocState.IsFull, AllocState.IsIn, AllocState.IsNext, AllocState.IsOf, AllocState.IsPlaced, AllocState.IsSwept, AllocState.IsTarget, AllocState.KeepsBlocks, Invariant.LieOnce, AllocState.LiesIn, Invariant.LiesNowhere, AllocState.NoneIs, AllocState.Opens, AllocState.PlacesName, AllocState.Sweeps, AllocState.SweepsEach, AllocState.SweepsSome, AllocState.all_empty, AllocState.all_retired, AllocState.cells, AllocState.count_in, AllocState.cycle_begun, AllocState.name_in, AllocState.no_cells, AllocState.prepared_state, AllocState.restated, AllocState.retired_state, AllocState.with_cells, Blocks.HasAt, Blocks.IsCarried, Blocks.IsMarkedAt, Blocks.IsSnapshotAt, Blocks.IsUsedAt, Blocks.MarksPlace, Blocks.SameMarked, Blocks.blocks_that, Blocks.in_snapshot, Blocks.is_carried, Blocks.is_marked, Blocks.marked_count, Blocks.snapshot_count, CycleSteps.carried_in, CycleSteps.carried_over, Stands.prepared, Stands.prepared_snap, CycleSteps.retired, Numbered.HasNumber, Numbered.Segments, Numbered.block_place, Numbered.is, Numbered.nth, Reserve.HasLeft, Reserve.KeepsReserve, Reserve.free_count, Reserve.pair, Segments.Allocates, Segments.HasNoCurrent, Segments.HasNone, Segments.HasRoom, Segments.IsBlockAt, Segments.IsChosen, Segments.IsCurrent, Segments.IsMember, Segments.IsOwn, Segments.IsSegments, Segments.IsToMark, Segments.MarksBlock, Segments.SweepsNext, Segments.SweepsSegment, Segments.TakesBlock, Segments.all_free, Segments.as_current, Segments.filled_count, Segments.marked_if, Stands.Shows, Stands.StandsFor, Invariant.Writes}
 pub use Rattle.nmgc_lists.specs.laws.Truths.{never}
 pub use Rattle.nmgc_object.specs.{Places.InSegment, Layouts.IsSegmentSize, Places.class_count, Layouts.left_over, Places.reserve_count, Places.word_total, Size.IsClassOf, Size.block_size, Size.name_place, Words.IsName, Words.name_word, declared.layout.Layout.Layout, declared.layout.TheConstants.FIRST_PLACE, laws.Classes.class_fits, laws.Classes.least_block as large, laws.Classes.object_half}
 pub use Rattle.nmgc_segment.specs.{Marks.IsEpoch, Marks.carried, Marks.swept, Invariant.HasFree, Invariant.InSnapshot, Segment.InUse, Invariant.IsFirstUnused, Invariant.IsMarked, Invariant.IsSegment, Segment.Segment, Segment.block_count, Segment.free_segment, Segment.mark_of, Segment.segment_words, declared.state.State.State, declared.state.State.TheVariants.Active, declared.state.State.TheVariants.Current, declared.state.State.TheVariants.Filled, declared.state.State.TheVariants.Free, declared.state.State.TheVariants.Sweeping, laws.Segments.carried_bounds, laws.Segments.carried_is, laws.Segments.few_blocks, laws.Segments.mark-map, laws.Segments.swept_is, laws.Segments.zero_swept}

@@ -1,9 +1,10 @@
 -- Lemmas that the crates above need too.
-use Rattle.std.proofs.Common.{ℕ, List, Ok, Err}
+use Rattle.std.proofs.Common.{ℕ, List, Result, Ok, Err}
 use Rattle.std.specs.Prelude.{IfOk}
-use Rattle.nmgc_cli.specs.{Answer.Reported, Answer.IsRan, Parts.IsOfScript, Output.AnswersBytes}
+use Rattle.nmgc_journal.specs.declared.report.Report.{Report}
+use Rattle.nmgc_cli.specs.{declared.answer.Refusal.Refusal, Answer.IsRan, Parts.IsOfScript, Output.AnswersBytes}
 
 -- a report that answers bytes is a report of a run of some script within the limits
-pub of_bytes : (bytes : List ℕ) (answer : Reported) → AnswersBytes IsRan bytes answer → IfOk answer IsOfScript
+pub of_bytes : (bytes : List ℕ) (answer : Result Report Refusal) → AnswersBytes IsRan bytes answer → IfOk answer IsOfScript
 of_bytes bytes (Ok report) h = record { script = h.0; limits = h.2.limits; run = h.2.run }
 of_bytes bytes (Err refusal) h = tt

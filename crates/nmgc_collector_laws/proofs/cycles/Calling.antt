@@ -1,6 +1,6 @@
 -- The marker's calls, over the laws of the machine.
-use Rattle.nmgc_collector_laws.proofs.Vocabulary.{ℕ, ◌≡◌, ◌++◌, true, List, [], ◌∷◌, length, map, refl, sym, ap, subst, ◌∙◌, inr, flat_map, length-map, World, Core, names_of, opening, Place, map_item, AllocState, rows_in, places_then, Opening, Scan, View, IsMarking, Marks, marks_of, marks_after, AreAt, AreRemembered, IsTied, MutatorSeen, Cycle, next_cycle, cycle_started, AreOfBlocks, TiesAgree, IsTiedByPlaces, with_places, all_prepared, all_entries, SnapshotIsMarking, RoundIsMarking, AddIsMarking, gathered, with_rows, core_facts}
-use Rattle.nmgc_collector_laws.proofs.{cycles.Beginning.opening_rests, cycles.Keeping.add_keeps_marking, cycles.Keeping.cycle_is_marking, cycles.Keeping.round_keeps_marking, cycles.Preparing.stop_begins, cycles.RoundHeap.marked_holds, cycles.Taking.machine_takes, cycles.Taking.places_mark, cycles.Tying.MarksLaw, cycles.Tying.EndsLaw, cycles.Tying.core_snapshot, cycles.Tying.heap_of_blocks, cycles.Tying.round_ends}
+use Rattle.nmgc_collector_laws.proofs.Vocabulary.{ℕ, ◌≡◌, ◌++◌, true, List, [], ◌∷◌, length, map, refl, sym, ap, subst, ◌∙◌, inr, flat_map, length-map, World, Core, names_of, opening, Place, map_item, AllocState, rows_in, places_then, Opening, Scan, View, IsMarking, Marks, marks_of, marks_after, now, AreAt, AreRemembered, IsTied, MutatorSeen, Cycle, next_cycle, cycle_started, AreOfBlocks, TiesAgree, IsTiedByPlaces, with_places, all_prepared, all_entries, SnapshotIsMarking, RoundIsMarking, AddIsMarking, gathered, with_rows, core_facts}
+use Rattle.nmgc_collector_laws.proofs.{cycles.Beginning.opening_rests, cycles.Keeping.add_keeps_marking, cycles.Keeping.cycle_is_marking, cycles.Keeping.round_keeps_marking, cycles.Pacing.marks_found, cycles.Preparing.stop_begins, cycles.RoundHeap.marked_holds, cycles.Taking.machine_takes, cycles.Taking.places_mark, cycles.Tying.MarksLaw, cycles.Tying.EndsLaw, cycles.Tying.core_snapshot, cycles.Tying.heap_of_blocks, cycles.Tying.round_ends}
 
 pub snapshot_is_marking : MarksLaw → TiesAgree → SnapshotIsMarking
 snapshot_is_marking law agree layout s words old new ends weaks o spare h world sound_new same places snapshot marked tied queue_room nothing from
@@ -34,9 +34,12 @@ round_is_marking law agree ending layout c s t old new before after ends weaks o
     round_ends law agree ending layout s before after old.segments new.segments ends weaks c o v mutators core new.marker h f sound
     (marks.layout ∙ h.holds.layout_is) (marks.stands before s.allocation h.holds.stands) interval goes g.all.0 g.opening same places snapshot
     (marks.scanned.epoch ∙ was.tied.epoch) of_view in
-    round_keeps_marking c s t old new o after v f mutators core (subst (λ (l : List Place). IsMarking c s old l) (sym places) was) goes world
-    (subst (λ (a : AllocState). IsTied d a new.segments (places_then o f.born) new.marker core) (sym allocation) by_blocks)
-    marks.room (marks.layout ∙ h.holds.layout_is ∙ sym same) left entries
+    (
+      round_keeps_marking c s t old new o after v f mutators core (subst (λ (l : List Place). IsMarking c s old l) (sym places) was) goes world
+          (subst (λ (a : AllocState). IsTied d a new.segments (places_then o f.born) new.marker core) (sym allocation) by_blocks)
+          marks.room (marks.layout ∙ h.holds.layout_is ∙ sym same) left entries,
+      marks_found d (now o f.events).world core goes.machine goes.found new.marker by_blocks.count,
+    )
 
 -- all entries, as one list
 entries_flat : (mutators : List MutatorSeen) → flat_map (λ (own : List ℕ). own) (map (λ (m : MutatorSeen). m.entries) mutators) ≡ all_entries mutators

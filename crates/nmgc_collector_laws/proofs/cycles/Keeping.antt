@@ -155,7 +155,7 @@ add_keeps_marking c s old new places names core was taken tied room left nothing
 }
 
 pub pace_after_round : PaceAfterRound
-pace_after_round quota c s t old new one was from next scans grows most least empty =
+pace_after_round quota c rows s t old new one was from next scans grows most least empty found =
     let before = was.scanned in
     let rounds : t.number - c.from - 1 ≡ s.number - c.from = omega arith in
     let same : (t.number - c.from - 1) * quota ≡ (s.number - c.from) * quota = ap (λ k. k * quota) rounds in
@@ -170,6 +170,7 @@ pace_after_round quota c s t old new one was from next scans grows most least em
           ];
       quota_or_done = least;
       empty = empty;
+      found = found;
     }
 
 not_empty : (old new : List ℕ) → length old ≤ length new → old ≢ [] → new ≢ []

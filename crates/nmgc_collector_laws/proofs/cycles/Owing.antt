@@ -3,7 +3,8 @@ use Rattle.nmgc_collector_laws.proofs.Vocabulary.{◌≡◌, ◌<◌, ℕ, Bool,
 use Rattle.nmgc_round.specs.Objects.{IsIn}
 use Rattle.nmgc_collector_laws.proofs.{cycles.Going.Leaves, cycles.Going.round_runs, cycles.Going.leaves_round, cycles.Pushing.AllPushed, cycles.Pushing.push_all, cycles.Remembering.all_found, cycles.Remembering.pushed_low, cycles.Seats.parts_gathered}
 use Rattle.nmgc_snapshot_laws.specs.laws.MarkedOnce.{marked_runs}
-use Rattle.nmgc_collector_laws.proofs.cycles.Handed.{owed_marked}
+use Rattle.nmgc_collector_laws.proofs.{cycles.Found.round_finds, cycles.Handed.owed_marked}
+use Rattle.nmgc_run_spec.specs.Closing.{HoldsOnce, IsMet}
 
 pub slices_owed : SlicesAreOwed
 slices_owed o before round old mutators seats done scans opens h nothing k p n there new =
@@ -67,6 +68,9 @@ module _ (c : Cycle) (o : Opening) (before words : List ℕ) (v : Seen) (mutator
         marked_runs then all.1.events [] core all.1.runs (ap (λ (x : State). x.is_closed) all.1.rest ∙ running) name beside;
   }
 
+  found : (name : Name) → Contains core.marked name → IsMet HoldsOnce (with_rows c (rows_in h.events)) name
+  found name k = round_finds c o.core.world o.core h.events rest h.legal name (subst (λ (x : State). Contains x.marked name) (all.1.rest) k)
+
   -- a mutator of the round with its part
   record IsOwn (k : ℕ) (m : Mutator) : Type 0 where
     part : Part
@@ -115,7 +119,7 @@ module _ (c : Cycle) (o : Opening) (before words : List ℕ) (v : Seen) (mutator
   goes_on : (t : State) × GoesOn c o words v h mutators t
   goes_on = (
     core,
-    record { machine = machine; marks = ap (λ (x : State). marks_of x) all.1.rest; remembered = remembered; low = low },
+    record { machine = machine; marks = ap (λ (x : State). marks_of x) all.1.rest; found = found; remembered = remembered; low = low },
   )
 
 pub machine_goes_on : MachineGoesOn

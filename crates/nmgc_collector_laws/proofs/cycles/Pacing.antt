@@ -1,13 +1,14 @@
 -- The bounds of a closing, by the pace of marking.
 use Rattle.nmgc_collector_laws.proofs.{Vocabulary.◌≡◌, Vocabulary.◌+◌, Vocabulary.ℕ, Vocabulary.List, Vocabulary.[], Vocabulary.◌∷◌, Vocabulary.length, Vocabulary.map, Vocabulary.refl, Vocabulary.sym, Vocabulary.ap, Vocabulary.◌∙◌, Vocabulary.arith, Vocabulary.inl, Vocabulary.inr, Vocabulary.cases_lt, Vocabulary.Name, Vocabulary.shared_name, Vocabulary.contains_head, Vocabulary.Entry, Vocabulary.opening, Vocabulary.Place, Vocabulary.IsStrongObject, Vocabulary.Counts, Vocabulary.AreAt, Vocabulary.one_more, Vocabulary.within_rounds, Vocabulary.others_counted, Vocabulary.IsOnce, Vocabulary.once_runs, Vocabulary.once_opening, Vocabulary.ClosingIsSoon, Vocabulary.ClosingComes, Vocabulary.ClosingIsPaced, cycles.Strong.IsExactlyStrong, cycles.Strong.Strong, cycles.Strong.exactly_strong}
-use Rattle.nmgc_collector_laws.proofs.Vocabulary.{◌<◌, ◌≤◌, true, false, subst, Contains, IsWorld, IsRoot, World, Event, Runs, Core, IsAhead, queued, IsSome, node_of, contains_tail, nothing_in, facts_kept, snapshot_theorem, Cycle}
+use Rattle.nmgc_collector_laws.proofs.Vocabulary.{◌<◌, ◌≤◌, ◌-◌, ◌*◌, true, false, subst, Contains, IsWorld, IsRoot, World, Event, Runs, Core, IsAhead, queued, IsSome, node_of, contains_tail, nothing_in, facts_kept, snapshot_theorem, Cycle}
 use Rattle.nmgc_world_spec.specs.Listing.{AreDistinct}
 use Rattle.nmgc_lists.specs.laws.Items.{contains_cases}
 use Rattle.nmgc_world_laws.specs.laws.Distinct.{no_more}
-use Rattle.nmgc_run_spec.specs.Closing.{IsSteady, IsFirstHeld, owed as owed_before}
+use Rattle.nmgc_world_spec.specs.History.{HoldsThroughout}
+use Rattle.nmgc_run_spec.specs.Closing.{HoldsOnce, IsMet, owed as owed_before}
 use Rattle.nmgc_snapshot_laws.specs.{Facts.unmarked, laws.MarkedOnce.marked_runs, laws.Openings.slot_marked, laws.Steady.field_read}
-use Rattle.nmgc_collector_laws.specs.Closes.{WaitingIsPaced}
-use Rattle.nmgc_collector_laws.proofs.cycles.Held.{marks_held}
+use Rattle.nmgc_collector_laws.specs.{Closes.WaitingIsPaced, Collector.HasFound, Marker.IsCoreOf}
+use Rattle.nmgc_mark.specs.Seen.{MarkerSeen}
 
 pub closing_is_soon : ClosingIsSoon
 closing_is_soon quota c t seen kept h more counts = elim (cases_lt (c.from + 1) t.number) [
@@ -31,14 +32,14 @@ not_ahead core name i empty here (queued entry k is le) = nothing_in entry (subs
 -- if nothing waits, all that is steady is marked
 steady_marked : (c : Cycle) → IsWorld c.snapshot → (es : List Event) (core : Core) → Runs (opening c.snapshot) es c.rows core → core.is_closed ≡ false →
     core.queue ≡ [] → ((n : Name) → Contains (owed_before c.snapshot c.earlier) n → IsSome (node_of c.snapshot n) → Contains core.marked n) →
-    (n : Name) → IsSteady c n → Contains core.marked n
-steady_marked c is es core runs running empty handed n (IsSteady.root _ r) =
+    (n : Name) → IsMet HoldsThroughout c n → Contains core.marked n
+steady_marked c is es core runs running empty handed n (IsMet.root _ r) =
     let same : core.snapshot ≡ c.snapshot = ((snapshot_theorem c.snapshot is es c.rows core runs).before running).snapshot in
     (facts_kept c.snapshot is es c.rows core runs running).roots n (subst (λ (w : World). IsRoot w n) (sym same) r)
-steady_marked c is es core runs running empty handed n (IsSteady.handed _ k there) = handed n k there
-steady_marked c is es core runs running empty handed n (IsSteady.slot _ r) =
+steady_marked c is es core runs running empty handed n (IsMet.handed _ k there) = handed n k there
+steady_marked c is es core runs running empty handed n (IsMet.slot _ r) =
     marked_runs (opening c.snapshot) es c.rows core runs running n (slot_marked c.snapshot is n r)
-steady_marked c is es core runs running empty handed n (IsSteady.field from _ i steady holds) =
+steady_marked c is es core runs running empty handed n (IsMet.field from _ i steady other holds there) =
     let here : Contains core.marked from = steady_marked c is es core runs running empty handed from steady in
     elim (field_read from i n c.snapshot is es c.rows core runs running holds) [
       | inl k ↦ k
@@ -70,24 +71,25 @@ some_waits [] some = absurd (some refl)
 some_waits (n ∷ l) some = omega arith
 
 pub waiting_is_paced : WaitingIsPaced
-waiting_is_paced quota c t seen allocation places core sound m tied after paced more =
-    let o : IsOnce core = once_runs (opening c.snapshot) m.events c.rows core m.runs m.open_yet (once_opening c.snapshot) in
+waiting_is_paced quota c t seen after paced more =
     let full : seen.work.scanned ≡ quota = elim paced.quota_or_done [
       | inl k ↦ k
       | inr done ↦ absurd (let bad : true ≡ false = sym done ∙ more in cc)
     ] in
     let waits : 1 ≤ length seen.marker.queue = some_waits seen.marker.queue (λ none.
     let bad : true ≡ false = sym ((paced.empty).1 none) ∙ more in cc) in
-    let long = other_count core o in
-    let counted = tied.count in
-    let scanned = paced.scanned in let rounds = one_more t.number c.from quota after in (
+    let scanned = paced.scanned in let rounds = one_more t.number c.from quota after in
+    paced.found ((t.number - c.from) * quota) (omega arith)
+
+-- the marks of a machine that are all of found objects
+pub marks_found : (c : Cycle) (w : World) (core : Core) → IsCoreOf c w core → ((n : Name) → Contains core.marked n → IsMet HoldsOnce c n) →
+    (marker : MarkerSeen) → marker.marked + 1 ≡ length core.marked → HasFound c marker
+marks_found c w core m met marker counted count less =
+    let o : IsOnce core = once_runs (opening c.snapshot) m.events c.rows core m.runs m.open_yet (once_opening c.snapshot) in
+    let long = other_count core o in (
       o.others,
       (once_others core o).1,
-      λ n k. (
-        marks_held c.snapshot sound.world (IsFirstHeld c) (λ r is. inl is) m.events c.rows core m.runs m.open_yet (λ r is there. inr (is, there)) n
-            (other_marked core o n k).0,
-        (other_marked core o n k).1,
-      ),
+      λ n k. let here = other_marked core o n k in (met n here.0, here.1),
       omega arith,
     )
 

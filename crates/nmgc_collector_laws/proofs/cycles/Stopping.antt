@@ -10,7 +10,7 @@ use Rattle.nmgc_stop_spec.specs.{Nurseries.nursery_at, Occupied.AreBlocks, Stopp
 use Rattle.nmgc_mutator.specs.{declared.mutator.Mutator.Mutator, Ready.IsUnused, laws.Common.none_known}
 use Rattle.nmgc_collector_laws.specs.{Rest.IsResting, Collector.AreAtRest, Collector.IsMarking, Seen.CollectorSeen, Seen.MutatorSeen, Seen.end_of, Seen.ends_of, Seen.nurseries_of, Blocks.AreOfBlocks, Blocks.TiesAgree, Heaps.seen_mutator, Heaps.AreShown, Heaps.HeapRests, RestMarking.IsAtRestMarking, RestMarking.opening_beside, laws.Roots.same_registers, laws.Roots.same_queues, laws.Roots.same_serials}
 use Rattle.nmgc_collector_laws.specs.Worked as turn
-use Rattle.nmgc_run_spec.specs.{Heap.HoldsAtStop, Heap.registers_of, Heap.queues_of, Heap.serials_of, Heap.snapshots, State.Plan, State.State, State.Progress, State.marking, State.layout_of}
+use Rattle.nmgc_run_spec.specs.{Heap.HoldsAtStop, Terms.registers_of, Terms.queues_of, Terms.serials_of, Heap.snapshots, State.Plan, State.State, State.Progress, State.marking, State.layout_of}
 use Rattle.nmgc_run_laws.specs.{Sound.IsSoundState, Sound.IsInCycle, laws.Places.blocks_at_stop, laws.Places.block_used}
 use Rattle.nmgc_round.specs.View.{Opening}
 use Rattle.nmgc_collector_laws.proofs.{cycles.Keeping.stop_is_at_rest, cycles.Opens.rest_opens, cycles.Tying.MarksLaw, cycles.Tying.core_snapshot, cycles.Tying.heap_of_blocks}

@@ -7,7 +7,7 @@ use Rattle.nmgc_world_spec.specs.{History.opened_by, Owed.values_owed}
 use Rattle.nmgc_snapshot_laws.specs.{Facts.pushed, Facts.unmarked, laws.MarkedOnce.open_before}
 use Rattle.nmgc_world_spec.specs.declared.value.Value.TheVariants as value
 use Rattle.nmgc_snapshot_laws.specs.declared.event.Event.TheVariants as event
-use Rattle.nmgc_collector_laws.proofs.{cycles.Beginning.IsBegun, cycles.Beginning.begun, cycles.Going.Leaves, cycles.Going.leaves_scan, cycles.Going.owed_scan}
+use Rattle.nmgc_collector_laws.proofs.{cycles.Beginning.IsBegun, cycles.Beginning.begun, cycles.Going.Leaves, cycles.Going.leaves_scan, cycles.Going.owed_scan, cycles.Marks.HaveMarked, cycles.Marks.marks_opening, cycles.Marks.marks_scan, cycles.Marks.queues_there, cycles.Marks.registers_there, cycles.Marks.scan_reads}
 
 -- both parts of a list without items have none
 none_first : (xs ys : List Name) → xs ++ ys ≡ [] → xs ≡ []
@@ -17,15 +17,6 @@ none_first (x ∷ xs) ys e = absurd cc
 none_last : (xs ys : List Name) → xs ++ ys ≡ [] → ys ≡ []
 none_last [] ys e = e
 none_last (x ∷ xs) ys e = absurd cc
-
-waiting_thunk : (node : Node) (free : List Value) → has_result node ≡ false → free_of node ≡ Some free → node ≡ Thunk free None
-waiting_thunk (Con tag values) free none e = absurd cc
-waiting_thunk (Var v) free none e = absurd cc
-waiting_thunk (Arr values) free none e = absurd cc
-waiting_thunk (Thunk own None) free none e = let same : own ≡ free = cc in ap (λ (l : List Value). Thunk l None) same
-waiting_thunk (Thunk own (Some result)) free none e = absurd cc
-waiting_thunk (Weak parts) free none e = absurd cc
-waiting_thunk (Stack size values) free none e = absurd cc
 
 module _ (S : World) (is : IsWorld S) (First : Name → Type 0) (roots : (n : Name) → IsRoot S n → First n) where
   -- reached in the snapshot, by strong fields alone, from its roots or other first names
@@ -42,54 +33,25 @@ module _ (S : World) (is : IsWorld S) (First : Name → Type 0) (roots : (n : Na
   held_fields name k (Some node) e = all_from_contains Kept (strong_fields node) (λ target c there.
       IsReached.field name target (k (some_of (node_of S name) node e)) (node, e, c))
 
+  from_roots : (n : Name) → IsRoot S n → Reached n
+  from_roots n r = IsReached.start n (roots n r)
+
+  from_slots : (n : Name) → RefersTo S shared_name n → Reached n
+  from_slots n r = IsReached.field shared_name n (from_roots shared_name (inl refl)) r
+
   snapshot_holds : CoversReach Kept S
   snapshot_holds = record {
-    registers = λ m. all_from_contains Kept (state_of S m).registers (λ n c there.
-        IsReached.start n (roots n (inr (m, Contains-append_left (state_of S m).registers (state_of S m).queue (value.Ref n) c))));
-    queues = λ m. all_from_contains Kept (state_of S m).queue (λ n c there.
-        IsReached.start n (roots n (inr (m, Contains-append_right (state_of S m).registers (state_of S m).queue (value.Ref n) c))));
+    registers = registers_there S Reached from_roots from_slots;
+    queues = queues_there S Reached from_roots from_slots;
     fields = λ name k. held_fields name k (node_of S name) refl;
   }
 
   pub shared_kept : Kept shared_name
   shared_kept there = IsReached.start shared_name (roots shared_name (inl refl))
 
-  each_flat : (f : MutatorState → List Value) (states : List MutatorState) → ((m : MutatorState) → Contains states m → All (Names Kept) (f m)) →
-      All (Names Kept) (flat_map f states)
-  each_flat f [] g = All-nil (Names Kept)
-  each_flat f (m ∷ states) g = All-append (Names Kept) (f m) (flat_map f states) (g m (contains_head m states)) (each_flat f states (λ t c.
-      g t (contains_tail m states t c)))
-
-  roots_kept : All (Names Kept) (root_values S)
-  roots_kept =
-      All-append (Names Kept) (flat_map (λ (m : MutatorState). m.registers) S.mutators) _
-      (each_flat (λ (m : MutatorState). m.registers) S.mutators (λ m c. let p = place_of S.mutators m c in
-      subst (λ (t : MutatorState). All (Names Kept) t.registers) (get_or_from_slice_get S.mutators p.0 m no_mutator p.1) (snapshot_holds.registers p.0)))
-      (All-append (Names Kept) (flat_map (λ (m : MutatorState). m.queue) S.mutators) (strong_fields S.shared)
-      (each_flat (λ (m : MutatorState). m.queue) S.mutators (λ m c. let p = place_of S.mutators m c in
-      subst (λ (t : MutatorState). All (Names Kept) t.queue) (get_or_from_slice_get S.mutators p.0 m no_mutator p.1) (snapshot_holds.queues p.0)))
-      (held_fields shared_name shared_kept (Some S.shared) refl))
-
   -- marked names are reached so
   abbrev pub AreStrong : State → Type 0
-  AreStrong s = (n : Name) → Contains s.marked n → Reached n
-
-  pub strong_name : (s : State) (name : Name) → s.snapshot ≡ S → Kept name → AreStrong s → AreStrong (mark_name s name)
-  strong_name s name same kept h = mark_cases AreStrong s name
-      (λ new n c. elim (Contains-append_cases s.marked (name ∷ []) n c) [
-        | inl old ↦ h n old
-        | inr last ↦ subst Reached (one_is name n last) (kept (rw same at (and_parts (is_some (node_of s.snapshot name)) (not (is_listed name s.marked)) new).0))
-      ])
-      (λ old. h)
-
-  strong_values : (s : State) (values : List Value) → s.snapshot ≡ S → All (Names Kept) values → AreStrong s → AreStrong (mark_values s values)
-  strong_values s [] same kept h = h
-  strong_values s (value.Nil ∷ values) same kept h = strong_values s values same (All-tail (Names Kept) value.Nil values kept) h
-  strong_values s (value.Number n ∷ values) same kept h = strong_values s values same (All-tail (Names Kept) (value.Number n) values kept) h
-  strong_values s (value.Ref name ∷ values) same kept h =
-      strong_values (mark_name s name) values (mark_cases (λ (t : State). t.snapshot ≡ S) s name (λ e. same) (λ e.
-      same)) (All-tail (Names Kept) (value.Ref name) values kept)
-      (strong_name s name same (All-head (Names Kept) (value.Ref name) values kept) h)
+  AreStrong = HaveMarked S Reached
 
   -- a state of the machine so far
   pub record IsReachedSo (s : State) : Type 0 where
@@ -100,56 +62,18 @@ module _ (S : World) (is : IsWorld S) (First : Name → Type 0) (roots : (n : Na
     pub strong : AreStrong s
 
   -- names that a scan reads in the snapshot are reached so
-  module _ (s : State) (h : IsReachedSo s) (entry : Entry) (waits : Contains s.queue entry) where
-    entry_strong : Reached entry.name
-    entry_strong = h.strong entry.name (h.facts.base.queued entry waits)
-
-    entry_there : IsSome (node_of S entry.name)
-    entry_there = rw h.snapshot_is at (live_there s.snapshot s.opened h.facts.base.snapshot entry.name
-        (h.facts.base.live entry.name (h.facts.base.queued entry waits)))
-
-    read_field : (node : Node) (i : ℕ) (n : Name) → node_of s.world entry.name ≡ Some node → entry.position ≡ suc i →
-        field_at node i ≡ Some (value.Ref n) → Kept n
-    read_field node i n e at reads = elim (read_cases node i (value.Ref n) reads) [
-      | inl st ↦ All-contains (Names Kept) (strong_fields node) (value.Ref n)
-          (at_some (node_of s.world entry.name) node (Fields (Names Kept)) e (h.holds.fields entry.name (λ there.
-          entry_strong))) (field_at_place node i (value.Ref n) st)
-      | inr (has, one, frees) ↦
-          let before = is_some_of (node_of S entry.name) entry_there in
-          let there : node_of s.snapshot entry.name ≡ Some before.0 = ap (λ (w : World). node_of w entry.name) h.snapshot_is ∙ before.1 in
-          let later = h.facts.base.later entry.name before.0 there in
-          let both : Some later.node ≡ Some node = sym later.node_is ∙ e in
-          let same : later.node ≡ node = cc in
-          let free = thunk_free node has in
-          let was : free_of before.0 ≡ Some free.0 = sym later.later.free ∙ ap (λ (x : Node). free_of x) same ∙ free.1 in
-          let none : has_result before.0 ≡ false = elim (h.facts.base.passed entry waits) [ inl low ↦ absurd (omega arith) | inr p ↦ p before.0 there ] in
-          let thunk : before.0 ≡ Thunk free.0 None = waiting_thunk before.0 free.0 none was in
-          let st : strong_at before.0 i ≡ Some (value.Ref n) = ap (λ (x : Node). strong_at x i) thunk ∙ frees free.0 free.1 in
-          (λ known. IsReached.field entry.name n entry_strong (before.0, before.1, field_at_place before.0 i (value.Ref n) st))
-    ]
-
-    read_kept : (o : Option Node) (position : ℕ) (n : Name) → node_of s.world entry.name ≡ o → entry.position ≡ position →
-        read_at o position ≡ Some (value.Ref n) → Kept n
-    read_kept None position n e at reads = absurd cc
-    read_kept (Some node) zero n e at reads = absurd cc
-    read_kept (Some node) (suc i) n e at reads = read_field node i n e at reads
-
-    strong_read : (v : Option Value) → read_at (node_of s.world entry.name) entry.position ≡ v → AreStrong (mark_read s v)
-    strong_read None e = h.strong
-    strong_read (Some value.Nil) e = h.strong
-    strong_read (Some (value.Number n)) e = h.strong
-    strong_read (Some (value.Ref n)) e = strong_name s n h.snapshot_is (read_kept (node_of s.world entry.name) entry.position n refl refl e) h.strong
-
-  strong_advanced : (s : State) (queue : List Entry) → AreStrong s → AreStrong (advanced s queue)
-  strong_advanced s [] h = h
-  strong_advanced s (entry ∷ rest) h = h
-
-  strong_scan : (s : State) (queue : List Entry) → IsReachedSo s → s.queue ≡ queue → AreStrong (after_scan s queue)
-  strong_scan s [] h e = h.strong
-  strong_scan s (entry ∷ rest) h e =
-      let v : Option Value = read_at (node_of s.world entry.name) entry.position in
-      let t : State = mark_read s v in
-      strong_advanced t t.queue (strong_read s h entry (subst (λ (l : List Entry). Contains l entry) (sym e) (contains_head entry rest)) v refl)
+  strong_read : (s : State) → IsReachedSo s → (entry : Entry) → Contains s.queue entry → (n : Name) →
+      read_at (node_of s.world entry.name) entry.position ≡ Some (value.Ref n) → Kept n
+  strong_read s h entry waits n reads =
+      let strong : Reached entry.name = h.strong.each entry.name (h.facts.base.queued entry waits) in
+      let r = scan_reads s h.facts entry waits (value.Ref n) reads in
+      elim r.1 [
+        | inl now ↦ All-contains (Names Kept) (strong_fields now.node) (value.Ref n)
+            (at_some (node_of s.world entry.name) now.node (Fields (Names Kept)) now.node_is (h.holds.fields entry.name (λ there.
+            strong))) (field_at_place now.node r.0 (value.Ref n) now.field)
+        | inr then ↦ λ known. IsReached.field entry.name n strong
+            (subst (λ (w : World). RefersTo w entry.name n) h.snapshot_is (then.node, then.node_is, field_at_place then.node r.0 (value.Ref n) then.field))
+      ]
 
   -- a command that opens only such names keeps it, and owes only such names
   reached_command : (s : State) (m : ℕ) (c : Command) (answer : Reply) → IsReachedSo s → (next : State) →
@@ -186,7 +110,7 @@ module _ (S : World) (is : IsWorld S) (First : Name → Type 0) (roots : (n : Na
           world = kept.1;
           snapshot_is = ap (λ (x : State). x.snapshot) p.1 ∙ h.snapshot_is;
           holds = subst (λ (x : State). CoversReach Kept x.world) (sym p.1) moves.holds;
-          strong = subst AreStrong (sym p.1) h.strong;
+          strong = subst AreStrong (sym p.1) (record { shared = h.strong.shared; each = h.strong.each; queued = h.strong.queued });
         },
         moves.owes,
       )
@@ -194,7 +118,7 @@ module _ (S : World) (is : IsWorld S) (First : Name → Type 0) (roots : (n : Na
   pub reached_scanned : (s next : State) → IsReachedSo s → Passes s event.Scan true next → next.is_closed ≡ false → IsReachedSo next
   reached_scanned s next h p running =
       reached_on s next event.Scan h p running (ap (λ (x : State). x.world) p.1 ∙ world_scanned s s.queue)
-      (ap (λ (x : State). x.snapshot) p.1 ∙ (leaves_scan s s.queue).snapshot) (subst AreStrong (sym p.1) (strong_scan s s.queue h refl))
+      (ap (λ (x : State). x.snapshot) p.1 ∙ (leaves_scan s s.queue).snapshot) (subst AreStrong (sym p.1) (marks_scan S Reached s s.queue h.snapshot_is h.strong refl (strong_read s h)))
 
   -- as marking begins
   pub reached_opening : IsReachedSo (opening S)
@@ -205,8 +129,7 @@ module _ (S : World) (is : IsWorld S) (First : Name → Type 0) (roots : (n : Na
         world = subst IsWorld (sym b.world_is) is;
         snapshot_is = ((snapshot_theorem S is [] [] (opening S) (refl, refl)).before b.open_yet).snapshot;
         holds = subst (λ (w : World). CoversReach Kept w) (sym b.world_is) snapshot_holds;
-        strong = strong_values (first_state S) (root_values S) refl roots_kept (λ n c.
-            subst Reached (one_is shared_name n c) (IsReached.start shared_name (roots shared_name (inl refl))));
+        strong = marks_opening S Reached from_roots from_slots;
       }
 
 module _ (S : World) (is : IsWorld S) where
@@ -292,7 +215,7 @@ module _ (S : World) (is : IsWorld S) where
       owed_along S rows ≡ [] → core.queue ≡ [] → IsExactlyStrong core
   exactly_strong es rows core runs running none empty =
       let so : IsStrongSo core = strong_runs (opening S) es rows core runs running (rw (opening_world S) none) strong_opening in
-      record { sound = so.so.strong; complete = all_marked so }
+      record { sound = so.so.strong.each; complete = all_marked so }
     where
       all_marked : IsStrongSo core → (n : Name) → Strong n → Contains core.marked n
       all_marked so n (IsReached.start _ root) = so.so.facts.roots n (subst (λ (w : World). IsRoot w n) (sym so.so.snapshot_is) root)

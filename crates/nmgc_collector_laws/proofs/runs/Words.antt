@@ -1,8 +1,11 @@
 -- The words and segments after a script that makes one object.
-use Rattle.nmgc_collector_laws.proofs.Vocabulary.{◌-◌, ℕ, zero, suc, ◌≡◌, ◌+◌, ◌*◌, ◌<◌, ◌≤◌, ◌⊎◌, ◌↔◌, List, [], ◌∷◌, ◌++◌, length, map, replicate, get_or, slice_index, arith, refl, sym, ap, subst, ◌∙◌, inl, inr, Option, Some, None, lit≤, lit<, IsSome, Contains, slice_get, ◌==◌, REGISTERS, SHARED_MAKER, SHARED_SLOTS, Name, Nil, Number, Node, Con, Arr, Weak, Parts, node_of, state_of, serial_of, shared_name, IsAlive, contains_head, contains_tail, contains_cases, none_in, Layout, InNursery, word_total, InUse, nth, HasNumber, block_place, block_size, name_word, IsName, All-cons, All-nil, StandsFor, Shows, LiesIn, AreNames, all_empty, cells, no_cells, name_in, holds, size_of, zeros_first, Place, HasSlots, AllMean, ListMeans, LiesWell, LiesInSegment, shared_place, IsNamed, IsPlaced, Represents, NoNode, layout_of, ListsWeaks, IsPlaceAtStop, FitBlocks, HasAllRegisters, HoldsAtStop, ObjectIsLawful, small_plan, object_program, object_name, object_words, object_segments, object_mutator, some_is, not_known, eqb-true}
+use Rattle.nmgc_collector_laws.proofs.Vocabulary.{◌-◌, ℕ, zero, suc, ◌≡◌, ◌+◌, ◌*◌, ◌<◌, ◌≤◌, ◌⊎◌, ◌↔◌, List, [], ◌∷◌, ◌++◌, length, map, replicate, get_or, slice_index, arith, refl, sym, ap, subst, ◌∙◌, inl, inr, Option, Some, None, lit≤, lit<, IsSome, Contains, slice_get, ◌==◌, REGISTERS, SHARED_MAKER, SHARED_SLOTS, Name, Nil, Number, Node, Con, Arr, Weak, Parts, node_of, state_of, shared_name, IsAlive, contains_head, contains_tail, contains_cases, none_in, Layout, InNursery, word_total, InUse, nth, HasNumber, block_place, block_size, name_word, IsName, StandsFor, Shows, LiesIn, AreNames, all_empty, cells, no_cells, name_in, holds, size_of, zeros_first, Place, HasSlots, ListMeans, LiesWell, LiesInSegment, shared_place, IsNamed, IsPlaced, Represents, NoNode, layout_of, IsPlaceAtStop, FitBlocks, ObjectIsLawful, small_plan, object_program, object_name, object_words, object_segments, object_mutator, some_is, not_known, eqb-true}
 use Rattle.nmgc_alloc.specs.Segments.{all_free}
+use Rattle.nmgc_journal.specs.declared.report.MutatorEnd.{MutatorEnd}
+use Rattle.nmgc_run_spec.specs.End.{HasObject, HoldsAtEnd, IsMutatorAtEnd}
+use Rattle.nmgc_collector_laws.specs.Samples.{object_report}
 use Rattle.nmgc_lists.specs.laws.Options.{not_none}
-use Rattle.nmgc_collector_laws.proofs.{runs.Reading.shared_or, runs.Reading.EachMeans, runs.Reading.has_slots, runs.Reading.all_mean, runs.Reading.fills_nil, runs.Reading.means_nil, runs.Listed.all_same, runs.Object.worked, runs.Object.placed, runs.Object.last, runs.Object.object_run, runs.Object.object_is_run}
+use Rattle.nmgc_collector_laws.proofs.{runs.Reading.shared_or, runs.Reading.has_slots, runs.Reading.fills_nil, runs.Listed.all_same, runs.Object.worked, runs.Object.placed, runs.Object.last, runs.Object.object_run, runs.Object.object_is_run}
 
 abbrev layout : Layout
 layout = layout_of (small_plan object_program)
@@ -160,23 +163,20 @@ fit number block n node lies there =
     let size : size_of node ≤ 4 = each_name (λ m x. object_name ≡ m → size_of x ≤ 4) (λ h. absurd (makers_differ h)) (λ h. lit≤ tt) n node there is.2 in
     subst (λ k. size_of node ≤ block_size (cells placed k).class) is.0 size
 
-registers_mean : EachMeans (Contains places) object_mutator.registers (state_of worked.world 0).registers
+nils_mean : (count : ℕ) → ListMeans (Contains places) (replicate count 1) (replicate count Nil)
+nils_mean zero = tt
+nils_mean (suc count) = (refl, nils_mean count)
+
+registers_mean : ListMeans (Contains places) object_mutator.registers (state_of worked.world 0).registers
 registers_mean = (
   (32, refl, contains_tail shared_place (object_place ∷ []) object_place (contains_head object_place [])),
-  (refl, (refl, means_nil (Contains places) (REGISTERS - 3))),
+  (refl, (refl, nils_mean (REGISTERS - 3))),
 )
 
-held : (m : ℕ) → m < 1 → AllMean (Contains places) object_mutator.registers (REGISTERS * m) (state_of worked.world m).registers
-held zero lt = all_mean (Contains places) object_mutator.registers (state_of worked.world 0).registers registers_mean
-held (suc m) lt = absurd (omega (arith, lt))
-
-queued : (m : ℕ) (own : List ℕ) → slice_get ([] ∷ []) m ≡ Some own → ListMeans (Contains places) own (state_of worked.world m).queue
-queued zero own e = subst (λ o. ListMeans (Contains places) o []) (some_is [] own e) tt
-queued (suc m) own e = absurd cc
-
-next : (m serial : ℕ) → slice_get (1 ∷ []) m ≡ Some serial → serial ≡ serial_of worked.world m
-next zero serial e = sym (some_is 1 serial e)
-next (suc m) serial e = absurd cc
+each_mutator : (m : ℕ) (own : MutatorEnd) → slice_get (object_mutator ∷ []) m ≡ Some own → IsMutatorAtEnd places worked.world m own
+each_mutator zero own e =
+    subst (IsMutatorAtEnd places worked.world 0) (some_is object_mutator own e) (record { registers = registers_mean; queue = tt; serial = refl })
+each_mutator (suc m) own e = absurd cc
 
 -- the segments represent the allocation state: the first has one block in use, and each other is as before its first use
 
@@ -216,22 +216,34 @@ stands new = record { total = refl; count = refl; names = names; fresh = refl; s
     names : AreNames placed
     names number block n lies = let is = only_block number block n lies in subst IsName is.2 (lit≤ tt, lit< tt, λ m. absurd (omega (arith, m)))
 
-none_listed : ListsWeaks layout places worked.world []
-none_listed = record { ordered = tt; sound = λ p c. absurd (none_in p c); complete = λ p weak. absurd (no_weak p.name weak.1.0 weak.1.1) }
+-- the object of a name of the world lies at its place
+object_there : (n : Name) (node : Node) → Placed n node → (at : ℕ) × HasObject places object_words (record { at = at; name = n }) node
+object_there n node p = (
+  p.at,
+  record {
+    there = p.there;
+    header = p.object.header;
+    name = (represents.named (record { at = p.at; name = n }) p.there).name;
+    fields = p.fields;
+  },
+)
 
-in_words : NewStands → HoldsAtStop layout last object_words object_segments (object_mutator ∷ []) []
-in_words new = record {
+at_end : NewStands → HoldsAtEnd layout last object_report
+at_end new = record {
   places = places;
   all = all_places;
-  holds = record {
-    fit = fit;
-    represents = represents;
-    registers = All-cons HasAllRegisters object_mutator [] refl (All-nil HasAllRegisters);
-    roots = record { count = refl; mutators = (refl, refl); held = held; queued = queued; next = next };
-    layout_is = refl;
-    stands = stands new;
+  layout_is = refl;
+  stands = stands new;
+  fit = fit;
+  objects = λ n node wide e. object_there n node (each_name Placed shared_placed object_placed n node e);
+  zeros = represents.zeros;
+  count = refl;
+  mutators = each_mutator;
+  weaks = record {
+    ordered = tt;
+    sound = λ n c. absurd (none_in n c);
+    complete = λ n alive. absurd (no_weak n alive.0 alive.1);
   };
-  listed = none_listed;
 }
 
 pub object_is_lawful : NewStands → ObjectIsLawful
@@ -240,7 +252,5 @@ object_is_lawful new = record {
   is_run = object_is_run;
   agrees = record { rounds_are = refl; stops_are = refl; cycles_are = refl };
   end_is = refl;
-  weaks = [];
-  weaks_are = refl;
-  heap = in_words new;
+  heap = at_end new;
 }

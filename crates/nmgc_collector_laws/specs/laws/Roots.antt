@@ -1,7 +1,7 @@
 -- The roots of mutators, as a run reads them and as a round does.
 use Rattle.std.proofs.Common.{ℕ, ◌≡◌, List, [], ◌∷◌, ◌++◌, map, refl, ap}
 use Rattle.nmgc_mutator.specs.declared.mutator.Mutator.{Mutator}
-use Rattle.nmgc_run_spec.specs.Heap.{registers_of, queues_of, serials_of}
+use Rattle.nmgc_run_spec.specs.Terms.{registers_of, queues_of, serials_of}
 use Rattle.nmgc_collector_laws.specs.{Heaps.seen_mutator, Seen.end_of}
 use Rattle.nmgc_collector_laws.specs.Worked as turn
 

@@ -1,6 +1,6 @@
 -- The names of std, of the crates below and of this crate's definitions that the lemmas of these laws use.
 pub use Rattle.nmgc_alloc.specs.{Numbered.Segments, Segments.IsSegments}
-pub use Rattle.nmgc_stop_spec.specs.{Cycle.Cycle, Cycle.interval_of, Nurseries.AreUsed, Nurseries.LieInOrder, Occupied.AreBlocks, Remembers.Remembers, Stopped.IsRoundOf, Stopped.IsSettled, Stopped.Stopped, Stopped.young_base}
+pub use Rattle.nmgc_stop_spec.specs.{Cycle.Cycle, Kept.interval_of, Nurseries.AreUsed, Nurseries.LieInOrder, Occupied.AreBlocks, Remembers.Remembers, Stopped.IsRoundOf, Stopped.IsSettled, Stopped.Stopped, Stopped.young_base}
 pub use Rattle.nmgc_collector_laws.specs.{Collector.HasReserve, Leaving.RoundIsForgotten, Leaving.RoundIsRemembered, Leaving.stopped_after, Marker.IsCoreOf, Rest.IsResting, Seen.CollectorSeen, Seen.ends_of, Seen.nurseries_of, Seen.recorded_in, Seen.young_weaks_in, Turn.SettledIsAtRest, Turn.SlicesAreDone, Turn.SlicesAreGathered, Worked.Done, Worked.HasWorked, Worked.HaveWorked, Worked.registers_of}
 pub use Rattle.nmgc_heap_spec.specs.{Moves.Moved, Moves.settled, Places.AllMean, Places.LiesWell, Places.ListMeans, Places.Means, Places.Place, Changes.IsEarlier, Represents.NoNode, Represents.Represents, Roots.RepresentsRoots, Tracked.IsTracked, laws.CommandLaws.past_tracked, laws.CommandLaws.step_keeps_earlier, laws.Kinds.map_item, laws.Moving.settled_cases}
 pub use Rattle.nmgc_limits.specs.declared.mutators.TheConstants.{REGISTERS}

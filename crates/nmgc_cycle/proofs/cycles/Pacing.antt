@@ -9,7 +9,7 @@ pub paced_within : ClosingIsSoon → ClosingIsPaced → WaitingIsPaced → PaceA
     Scans old.marker new.marker 0 → old.marker.marked ≤ new.marker.marked → new.work ≡ old.work → IsPacedWithin quota c t new
 paced_within soon paced waiting at_stop quota c t old new allocation places core sound is_core tied after pace scans grows same = record {
   goes_on = λ left. at_stop quota c t old new pace (omega (arith, after)) (sym (ap (λ (w : WorkSeen). w.empty) same) ∙ left) scans grows;
-  waits = λ left. waiting quota c t old allocation places core sound is_core tied after pace (sym (ap (λ (w : WorkSeen). w.empty) same) ∙ left);
+  waits = λ left. waiting quota c t old after pace (sym (ap (λ (w : WorkSeen). w.empty) same) ∙ left);
   closes = λ none kept le counts. (
     soon quota c t old kept pace (omega (arith, grows, le)) counts,
     paced quota c t old allocation places core sound is_core tied after pace (sym (ap (λ (w : WorkSeen). w.empty) same) ∙ none),

@@ -3,7 +3,7 @@ use Rattle.nmgc_cycle.proofs.Vocabulary.{ℕ, ◌≡◌, ◌+◌, ◌≤◌, Lis
 use Rattle.nmgc_collector_laws.specs.Worked.{registers_of}
 use Rattle.nmgc_alloc.specs.declared.search.Category.TheVariants as sought
 use Rattle.nmgc_journal.specs.declared.report.Phase.TheVariants as phase
-use Rattle.nmgc_run_spec.specs.Heap as run
+use Rattle.nmgc_run_spec.specs.Terms as run
 use Rattle.nmgc_segment.specs.declared.state.State.TheVariants as stands
 use Rattle.nmgc_cycle.specs.declared.progress.Progress.TheVariants as doing
 use Rattle.nmgc_cycle.proofs.{lists.MutatorLists.words_of_queues, cycles.PreparedSegments.prepared_sound, lists.Views.registers_seen, lists.Views.queues_seen}

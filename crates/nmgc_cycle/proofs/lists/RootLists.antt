@@ -4,7 +4,7 @@ use Rattle.std.specs.Prelude.{flat_map, slice_get, option_map}
 use Rattle.nmgc_object.specs.declared.layout.Nursery.{Nursery}
 use Rattle.nmgc_mutator.specs.{declared.mutator.Mutator.Mutator, Records.numbers}
 use Rattle.nmgc_collector_laws.specs.Worked as turn
-use Rattle.nmgc_run_spec.specs.Heap.{serials_of}
+use Rattle.nmgc_run_spec.specs.Terms.{serials_of}
 use Rattle.nmgc_collector_laws.specs.{laws.Roots.same_serials, Seen.MutatorSeen, Seen.end_of}
 use Rattle.nmgc_cycle.specs.Shown.{seen_mutator}
 

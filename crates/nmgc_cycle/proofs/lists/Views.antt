@@ -4,8 +4,8 @@ use Rattle.std.specs.Prelude.{All}
 use Rattle.nmgc_journal.specs.declared.report.MutatorEnd.{MutatorEnd}
 use Rattle.nmgc_mutator.specs.declared.mutator.Mutator.{Mutator}
 use Rattle.nmgc_collector_laws.specs.Worked as worked
-use Rattle.nmgc_run_spec.specs.Heap as reported
-use Rattle.nmgc_run_spec.specs.Heap.{HasAllRegisters}
+use Rattle.nmgc_run_spec.specs.Terms as reported
+use Rattle.nmgc_run_spec.specs.Terms.{HasAllRegisters}
 use Rattle.nmgc_collector_laws.specs.{Seen.ends_of, Seen.end_of, Seen.nurseries_of, Seen.recorded_in, Seen.young_weaks_in, Seen.finalised_in, laws.Roots.same_registers, laws.Roots.same_queues, laws.Roots.same_serials}
 use Rattle.nmgc_cycle.specs.{declared.collector.Collector.Collector, Roots.HasRegisters, Shown.seen, Shown.seen_mutator}
 use Rattle.nmgc_cycle.proofs.lists.RootLists.{same_nurseries, same_recorded, same_weaks, same_finalised}

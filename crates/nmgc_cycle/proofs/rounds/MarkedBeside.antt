@@ -1,6 +1,6 @@
 -- A round beside marking, or without a cycle: blocks and addresses are the stop's, and the new objects'.
 use Rattle.nmgc_cycle.proofs.Vocabulary.{◌≡◌, ◌≤◌, ◌⊎◌, ◌↔◌, List, [], refl, sym, ap, subst, ◌∙◌, inl, inr, arith, true, cases_lt, Core, IsSound, map_item, Name, StandsFor, Segments, counts_stand, HasMarked, IsTiedByPlaces, marks_seen, marks_after, Opening, View, Script, HasLeft, ShowEntries, IsMachineAtRest, with_rows, Sweeper, HasNotes, AreLeft, interval_of, Cycle, HoldsInCycle, IsMarking, IsPacedAtStop, IsPacedAfterRound, IsLastBegun, AreSettled, noted, SweepsBeside, MarkerSeen, WorkSeen, MutatorSeen, ends_of, IsInCycle, Progress, idle, marking, phase_of, runs_are, rounds_are_sound, Collector, HasHelped, HasScanned, Sweeps, seen, seen_mutator, died, phase_in, marker_in, work_in, sweeper_in, OpensIn}
-use Rattle.nmgc_collector_laws.specs.Owed.{GoesOn}
+use Rattle.nmgc_collector_laws.specs.{Collector.HasFound, Owed.GoesOn}
 use Rattle.nmgc_segment.specs.declared.state.State.TheVariants as stands
 use Rattle.nmgc_alloc.specs.Reserve as reserve
 use Rattle.nmgc_cycle.specs.declared.progress.Marking as held_marking
@@ -156,7 +156,7 @@ module _ (laws : HasRoundLaws) (script : Script) (c new : Collector) (o : Openin
     entries i mutator is = let h = map_item seen_mutator new.mutators.items i mutator is in (h.0, h.1, ap (λ (y : MutatorSeen). y.entries) h.2)
 
     marks_on : IsMarking (with_rows k (rows script c new o x)) (t script c new o x (s script c new o x).allocation) (shown script c new o x)
-        (places script c new o x)
+        (places script c new o x) × HasFound (with_rows k (rows script c new o x)) (shown script c new o x).marker
     marks_on = laws.is_marking (layout script c new o x) k (s script c new o x) (t script c new o x (s script c new o x).allocation) (seen c)
         (shown script c new o x) (seen c).words x.did.words (ends_of (seen c)) (seen c).weaks o x.did.scans x.did.seats new.mutators.items
         x.did.done goes_on.0 n.last.scanned x.still.at_stop.heap x.did.leaves.0 x.did.sound sound opens.0 (opening_layout script c new o x)
@@ -187,21 +187,18 @@ module _ (laws : HasRoundLaws) (script : Script) (c new : Collector) (o : Openin
     empty_where : ((shown script c new o x).work.empty ≡ true) ↔ ((shown script c new o x).marker.queue ≡ [])
     empty_where = (λ y. queue_is ∙ did.2.empty.0 (sym empty_is ∙ y), λ y. empty_is ∙ did.2.empty.1 (sym queue_is ∙ y))
 
-    paced : IsPacedAfterRound script.config.quota k (t script c new o x (s script c new o x).allocation) (shown script c new o x)
-    paced =
+    paced_on : IsPacedAfterRound script.config.quota (with_rows k (rows script c new o x)) (t script c new o x (s script c new o x).allocation)
+        (shown script c new o x)
+    paced_on =
         let some = x.limits.fits.config.some_quota in
         let most = did.2.most in
         let pace = marked.scanned.pace in
-        laws.pace script.config.quota k (s script c new o x) (t script c new o x (s script c new o x).allocation) (seen c) (shown script c new o x)
-        some paced_before course.from_before refl (omega (arith, pace, scanned_is)) marked.scanned.grows (omega (
+        laws.pace script.config.quota k (rows script c new o x) (s script c new o x) (t script c new o x (s script c new o x).allocation) (seen c)
+        (shown script c new o x) some paced_before course.from_before refl (omega (arith, pace, scanned_is)) marked.scanned.grows (omega (
           arith,
           scanned_is,
           most,
-        )) all_or_none empty_where
-
-    paced_on : IsPacedAfterRound script.config.quota (with_rows k (rows script c new o x)) (t script c new o x (s script c new o x).allocation)
-        (shown script c new o x)
-    paced_on = record { scanned = paced.scanned; most = paced.most; some = paced.some; quota_or_done = paced.quota_or_done; empty = paced.empty }
+        )) all_or_none empty_where marks_on.1
 
     -- the sweeper is as it was, and the same segments wait
     sweeps_before : Sweeps (marking k) (s script c new o x) c
@@ -248,7 +245,7 @@ module _ (laws : HasRoundLaws) (script : Script) (c new : Collector) (o : Openin
       cycle = subst (λ (p : Progress). HoldsInCycle (λ (j : Cycle).
           IsPacedAfterRound script.config.quota j (t script c new o x (s script c new o x).allocation) (shown script c new o x))
           (noted p (rows script c new o x)) (t script c new o x (s script c new o x).allocation) (shown script c new o x) (places script c new o x))
-          (sym e) (marks_on, paced_on);
+          (sym e) (marks_on.0, paced_on);
       sweeper = subst (λ (p : Progress).
           Sweeps (noted p (rows script c new o x)) (t script c new o x (s script c new o x).allocation) (last script c new o x)) (sym e) sweeps_on;
       named = x.still.named;

@@ -10,7 +10,7 @@ use Rattle.nmgc_mutator.specs.{declared.mutator.Mutator.Mutator, Ready.IsUnused,
 use Rattle.nmgc_collector_laws.specs.{Rest.IsAtRest, Rest.IsResting, Seen.MutatorSeen, Seen.end_of, Seen.ends_of, Seen.nurseries_of, laws.Roots.same_registers, laws.Roots.same_queues, laws.Roots.same_serials}
 use Rattle.nmgc_collector_laws.specs.Worked as turn
 use Rattle.nmgc_script.specs.{declared.script.Script.Script, Limits.IsInLimits}
-use Rattle.nmgc_run_spec.specs.{Heap.snapshots, Heap.registers_of, Heap.queues_of, Heap.serials_of, Run.Run, Run.last_state, State.plan_of, State.layout_of}
+use Rattle.nmgc_run_spec.specs.{Heap.snapshots, Terms.registers_of, Terms.queues_of, Terms.serials_of, Run.Run, Run.last_state, State.plan_of, State.layout_of}
 use Rattle.nmgc_run_laws.specs.laws.Places.{blocks_at_stop, block_used}
 use Rattle.nmgc_cycle.specs.{declared.collector.Collector.Collector, Keeps.IsAfterStop, Shown.seen, Shown.words_in, Shown.seen_mutator}
 use Rattle.nmgc_cycle.proofs.{lists.Plans.sound_state, lists.RootLists.seen_at}

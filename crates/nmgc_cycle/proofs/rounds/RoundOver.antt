@@ -12,7 +12,7 @@ use Rattle.nmgc_round.specs.{Naming.AllReply, Objects.earlier, Starting.CanOpen,
 use Rattle.nmgc_collector_laws.specs.{Turn.RoundIsStopped, Turn.RoundListsFinalised, Turn.stop_after, Worked.Done, Worked.ListsFinalised, Heaps.IsRoundFrom, Collector.AreNurseries, Seen.end_of, Seen.ends_of, Seen.nurseries_of, Seen.recorded_in, Seen.young_weaks_in, Seen.finalised_in, laws.Roots.same_registers, laws.Roots.same_queues, laws.Roots.same_serials}
 use Rattle.nmgc_collector_laws.specs.Worked as turn
 use Rattle.nmgc_script.specs.declared.script.Script.{Script}
-use Rattle.nmgc_run_spec.specs.{Heap.HasAllRegisters, Heap.snapshots, Heap.registers_of, Heap.queues_of, Heap.serials_of, Slice.slice_of, AfterRound.program_of, State.layout_of}
+use Rattle.nmgc_run_spec.specs.{Terms.HasAllRegisters, Heap.snapshots, Terms.registers_of, Terms.queues_of, Terms.serials_of, Slice.slice_of, AfterRound.program_of, State.layout_of}
 use Rattle.nmgc_cycle.specs.{declared.collector.Collector.Collector, Roots.HasRegisters, Shown.seen, Shown.seen_mutator, Shown.words_in}
 use Rattle.nmgc_cycle.proofs.{stops.EnoughFree.reserve_free, lists.Phases.noted_snapshots, lists.Plans.sound_state, rounds.Positions.left_is, rounds.Resting.blocks_there, lists.RootLists.same_nurseries, lists.RootLists.same_recorded, lists.RootLists.same_weaks, lists.RootLists.same_finalised, rounds.Rounded.one_did, rounds.Slicing.commands_of, rounds.Over.IsOver, rounds.Over.plan, rounds.Over.s, rounds.Over.w, rounds.Over.t, rounds.Over.rows, rounds.Over.places, rounds.Over.shown, rounds.Over.view, rounds.Over.worked, rounds.Over.can, rounds.Over.mutators_count, rounds.Over.one}
 use Rattle.nmgc_lists.specs.laws.Items.{item}

@@ -175,7 +175,7 @@ module _ (laws : HasPromotionLaws) (script : Script) (old new : Collector) (kept
           (was_promoted c spoken) refl (left_of c spoken h.0.queue_room)
           (after.remembers script old new kept b p),
       record {
-        paced = record { scanned = h.1.scanned; most = h.1.most; some = h.1.some; quota_or_done = h.1.quota_or_done; empty = h.1.empty };
+        paced = record { scanned = h.1.scanned; most = h.1.most; some = h.1.some; quota_or_done = h.1.quota_or_done; empty = h.1.empty; found = h.1.found };
         later = later c refl;
       },
     )

@@ -1,5 +1,5 @@
 -- The report of a run that has ended.
-use Rattle.nmgc_cycle.proofs.Vocabulary.{ℕ, ◌≡◌, List, [], ◌∷◌, map, refl, sym, ap, ◌∙◌, Option, Some, Name, CycleRow, MutatorEnd, End, HeapFull, IsLawful, ends_of, Place, Script, OldWeak, names_of, places_of, Collector, IsWellFormed, HasStopped, HasEnded, seen, report_cycles, words_in, report_of}
+use Rattle.nmgc_cycle.proofs.Vocabulary.{ℕ, ◌≡◌, List, [], ◌∷◌, map, refl, sym, ap, ◌∙◌, Option, Some, Name, CycleRow, MutatorEnd, End, HeapFull, IsLawfulAtStop, plan_of, ends_of, Place, Script, OldWeak, names_of, places_of, Collector, IsWellFormed, HasStopped, HasEnded, seen, report_cycles, words_in, report_of}
 use Rattle.nmgc_journal.specs.declared.report.End.TheVariants.{Done}
 
 pub stopped_by : (script : Script) (c : Collector) (end : End) → HasEnded script c end → HasStopped script c × (c.answered ≡ Some end)
@@ -15,7 +15,7 @@ names_are [] = refl
 names_are (weak ∷ list) = ap (λ (l : List Name). weak.weak ∷ l) (names_are list)
 
 -- it reports the run, to the end that the last stop answered
-pub reported : (script : Script) (c : Collector) (end : End) → HasEnded script c end → IsLawful script (report_of c end)
+pub reported : (script : Script) (c : Collector) (end : End) → HasEnded script c end → IsLawfulAtStop (plan_of script) (report_of c end)
 reported script c end h =
     let stopped = stopped_by script c end h in
     let at_stop = stopped.0.1.at_stop in
@@ -24,9 +24,7 @@ reported script c end h =
       is_run = at_stop.is_run;
       agrees = at_stop.agrees;
       end_is = sym at_stop.answered ∙ stopped.1;
-      weaks = (seen c).weaks;
-      weaks_are = names_are c.heap.weaks.list;
-      heap = at_stop.heap;
+      heap = ((seen c).weaks, names_are c.heap.weaks.list, at_stop.heap);
     }
 
 -- a report with these parts is the collector's

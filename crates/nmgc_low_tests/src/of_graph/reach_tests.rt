@@ -1,6 +1,6 @@
 //! Worlds that were worked by hand: their live names, dead weak pointers and kept names.
 ghost use Rattle.std.specs.Prelude.{◌≡◌, IsTrue, IsSome, IfOk, All, [], ◌∷◌};
-ghost use Rattle.nmgc_world_spec.specs.{World.node_of, Known.IsRegister, Known.IsOperand, Command.HasRegisters};
+ghost use Rattle.nmgc_world_spec.specs.{World.node_of, Known.IsRegister, Known.IsOperand, Known.HasRegisters};
 
 use nmgc_graph::*;
 use std::alloc::Global;

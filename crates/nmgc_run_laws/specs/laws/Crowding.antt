@@ -2,13 +2,13 @@
 use Rattle.std.proofs.{Common.ℕ, Common.◌≡◌, Common.◌+◌, Common.◌<◌, Common.◌≤◌, Common.List, Common.[], Common.◌∷◌, Common.◌++◌, Common.length, Common.arith, Common.refl, Common.sym, Common.ap, Common.subst, Common.◌∙◌, Common.Bool, Common.true, Common.Some, Common.None, Common.inl, Common.inr, lemmas.Bool.ltb-true, lemmas.Bool.cases_lt, lemmas.List.get_or_past, lemmas.List.Elements.All-get_or}
 use Rattle.std.specs.Prelude.{nat_lt, ◌&&◌, if◌then◌else◌}
 use Rattle.nmgc_lists.specs.laws.Truths.{and_both}
-use Rattle.nmgc_world_spec.specs.{declared.command.Command.Command, World.World, Listing.Counts}
+use Rattle.nmgc_world_spec.specs.{declared.command.Command.Command, World.World, World.new_world, Reach.IsKept, Listing.Counts}
 use Rattle.nmgc_alloc.specs.laws.Cells.{all_swept}
 use Rattle.nmgc_journal.specs.{declared.report.CycleRow.CycleRow, declared.report.Report.Report, declared.report.End.End, declared.report.End.TheVariants.Done, declared.report.End.TheVariants.HeapFull, Summary.kept_count}
 use Rattle.nmgc_limits.specs.Limits.{most_script_bytes}
-use Rattle.nmgc_script.specs.{Limits.FitsScript, Limits.HasFewCommands, declared.script.Script.Script}
-use Rattle.nmgc_stop_spec.specs.Cycle.{IsKeptIn, Cycle}
-use Rattle.nmgc_run_spec.specs.{Crowded.StopInRun, Crowded.opening_stop, Crowded.next_stop, Crowded.last_after, Crowded.last_stop, Crowded.IsKeptOf, Crowded.IsCrowded, Crowded.LeavesHeapFull, Crowded.IsHeapFull, Crowded.IsRunOf, Lawful.IsLawfulFor, Run.Run, Run.Turn, Run.IsRun, Run.AreTurns, Run.state_after, Run.last_state, Slice.has_left, AfterRound.program_of, State.State, State.Plan, State.Progress, State.idle, State.marking, State.sweeping, State.free_count, State.reserve_of, State.cycle_started, State.next_cycle, State.plan_of, Stop.EndsOrWaits, Stop.Finishes, Stop.DoesFullCycle, Stop.Proceeds, Stop.with_all_retired, Stop.is_short, Stop.is_done, Stop.answer_of, Stop.SweepsRest}
+use Rattle.nmgc_script.specs.{Limits.FitsScript, declared.script.Script.Script, Parts.HasFewCommands}
+use Rattle.nmgc_stop_spec.specs.Cycle.{ExceptShared, IsKeptIn, Cycle}
+use Rattle.nmgc_run_spec.specs.{Crowded.StopInRun, Crowded.last_after, Crowded.last_stop, Crowded.IsCrowded, Crowded.LeavesHeapFull, Crowded.IsHeapFull, Crowded.IsRunOf, Lawful.IsLawful, Run.Run, Run.Turn, Run.IsRun, Run.IsTurn, Run.AreTurns, Run.state_after, Run.last_state, Slice.has_left, AfterRound.program_of, State.State, State.Plan, State.Progress, State.idle, State.marking, State.sweeping, State.free_count, Terms.reserve_of, State.cycle_started, State.next_cycle, State.plan_of, State.start, Stop.EndsOrWaits, Stop.Finishes, Stop.DoesFullCycle, Stop.Proceeds, Terms.with_all_retired, Stop.is_short, Terms.is_done, Stop.answer_of, Terms.SweepsRest}
 use Rattle.nmgc_run_laws.specs.{Statements.LawfulAreOfRuns, Sound.IsRunnable, laws.CycleCounts.free_kept, laws.FullHeaps.full_crowded, laws.FullHeaps.full_short, laws.FullHeaps.kept_last, laws.FullHeaps.full_heap_is_crowded, laws.Limits.scripts_have_good_plans, laws.Programs.HasPrograms, laws.Runs.round_holds, laws.Runs.turn_holds, laws.Runs.opening_worked, laws.Runs.opening_holds, laws.States.IsSoundHere, laws.States.Worked, laws.States.lefts, laws.Stops.stop_holds}
 
 -- the objects that a full cycle keeps
@@ -27,7 +27,7 @@ finished_world s t cycles f = ended_world f.swept.progress f.swept t cycles f.en
 -- if a full cycle leaves too few segments free, its first world keeps more objects than there are segments above the reserve
 record KeepsMuch (plan : Plan) (w : World) : Type 0 where
   kept : ℕ
-  counts : Counts (IsKeptOf w) kept
+  counts : Counts (ExceptShared (IsKept w [] [])) kept
   more : plan.config.segments < kept + reserve_of plan
 
 full_keeps : (plan : Plan) (s t : State) (cycles : List CycleRow) (f : DoesFullCycle s t cycles) → IsSoundHere plan s →
@@ -66,10 +66,10 @@ proceeds_claim plan stop h (inl f) short =
     let much : KeepsMuch plan f.1.idled.world = full_keeps plan s t stop.is.more f.1 h few in (
       record { cycle = f.1; short = short },
       record {
-        world = f.1.idled.world;
-        begins = (f.1.finishes.closed, f.1.finishes.closes, finished_world s f.1.idled f.1.before f.1.finishes);
+        closed = f.1.finishes.closed;
+        closes = f.1.finishes.closes;
         kept = much.kept;
-        counts = much.counts;
+        counts = subst (λ (w : World). Counts (ExceptShared (IsKept w [] [])) much.kept) (finished_world s f.1.idled f.1.before f.1.finishes) much.counts;
         more = much.more;
       },
     )
@@ -87,6 +87,14 @@ stop_claim plan stop h =
     proceeds_claim plan stop (stop_holds plan stop.began stop.worked stop.stop.state stop.stop.row stop.stop.cycles stop.is h).ended stop.is.proceeds
 
 -- the run
+
+-- its opening stop
+abbrev opening_stop : (plan : Plan) (run : Run) → IsRun plan run → StopInRun plan
+opening_stop plan run i = record { began = new_world (length plan.threads); worked = start plan; stop = run.opening; is = i.opening }
+
+-- the stop after a round
+abbrev next_stop : (plan : Plan) (before : StopInRun plan) (turn : Turn) → IsTurn plan before.stop.state turn → StopInRun plan
+next_stop plan before turn i = record { began = before.stop.state.world; worked = turn.worked; stop = turn.stop; is = i.stop }
 
 turns_claim : (plan : Plan) (before : StopInRun plan) (turns : List Turn) (i : AreTurns plan before.stop.state turns) →
     HasPrograms plan before.stop.state → IsSoundHere plan before.stop.state → Claim plan before → Claim plan (last_after plan before turns i)
@@ -131,11 +139,12 @@ short_end plan s end e short =
     of_some Done e = absurd cc
     of_some (HeapFull free reserve) e = tt
 
-kept_many : (plan : Plan) (report : Report) (end : End) (lawful : IsLawfulFor plan report) → IsRunnable plan →
-    answer_of plan (last_state lawful.run) ≡ Some end → IsHeapFull end → plan.config.segments < kept_count report.cycles + reserve_of plan
-kept_many plan report Done lawful runnable e full = absurd full
-kept_many plan report (HeapFull free reserve) lawful runnable e full =
-    full_heap_is_crowded plan lawful.run report.rounds report.stops report.cycles free reserve runnable lawful.is_run lawful.agrees e
+kept_many : (script : Script) (report : Report) (end : End) (lawful : IsLawful script report) → IsRunnable (plan_of script) →
+    answer_of (plan_of script) (last_state lawful.run) ≡ Some end → IsHeapFull end →
+    script.config.segments < kept_count report.cycles + reserve_of (plan_of script)
+kept_many script report Done lawful runnable e full = absurd full
+kept_many script report (HeapFull free reserve) lawful runnable e full =
+    full_heap_is_crowded (plan_of script) lawful.run report.rounds report.stops report.cycles free reserve runnable lawful.is_run lawful.agrees e
 
 -- a program has no more commands than a script may have bytes, and so it is short enough for serials
 pub few_in_each : (script : Script) → HasFewCommands script → (m : ℕ) → length (program_of script.threads m) ≤ most_script_bytes
@@ -164,7 +173,7 @@ lawful_are_of_runs script report fits few lawful =
         λ is. short_end plan (last_state run) report.end lawful.end_is (sym (ap (λ (s : State).
             is_short plan s) last) ∙ is.short),
       );
-      kept = λ full. kept_many plan report report.end lawful runnable lawful.end_is full;
+      kept = λ full. kept_many script report report.end lawful runnable lawful.end_is full;
       crowded = λ full. (claim (short full)).1;
     } in
     (of_run, refl)

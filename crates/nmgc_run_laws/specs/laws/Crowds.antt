@@ -7,7 +7,8 @@ use Rattle.nmgc_object.specs.{Size.block_size, declared.layout.Layout.Layout, la
 use Rattle.nmgc_segment.specs.declared.state.State.{State as Stands}
 use Rattle.nmgc_segment.specs.declared.state.State.TheVariants as stands
 use Rattle.nmgc_alloc.specs.{Numbered.is, laws.Cells.none_some, laws.Cells.swept_other, laws.Cells.swept_here, laws.Cells.swept_was, laws.Cells.begun_cells, laws.Cells.retired_cells, AllocState.prepared_state, AllocState.retired_state, AllocState.AllocState, AllocState.Cells, AllocState.Sweeps, AllocState.SweepsEach, AllocState.HoldsKept, AllocState.LiesIn, AllocState.cells, AllocState.no_cells, AllocState.name_in, AllocState.cycle_begun, AllocState.all_retired, AllocState.IsIn, AllocState.NoneIs}
-use Rattle.nmgc_stop_spec.specs.Cycle.{IsKeptIn, IsKeptObject, Cycle}
+use Rattle.nmgc_stop_spec.specs.Cycle.{IsKeptIn, Cycle}
+use Rattle.nmgc_stop_spec.specs.Kept.{IsKeptObject}
 use Rattle.nmgc_run_laws.specs.{Sound.AreSoundBlocks, laws.CycleCounts.free, laws.Filing.sweep_filed}
 use Rattle.nmgc_world_laws.specs.{laws.Distinct.no_more, laws.Reached.listed_cases as listed_or_not}
 

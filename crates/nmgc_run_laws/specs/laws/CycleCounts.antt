@@ -1,6 +1,6 @@
 -- Each begun cycle has its row once the run has ended. A full cycle leaves the collector idle, since it sweeps all that wait.
 use Rattle.std.specs.Prelude.{◌≡◌, ◌+◌, ◌∷◌, ◌++◌, if◌then◌else◌, ◌&&◌}
-use Rattle.nmgc_run_laws.specs.laws.Vocabulary.{ℕ, List, [], length, map, arith, refl, sym, ap, subst, ◌∙◌, Some, None, Bool, true, false, not, cond, inl, inr, length-append, sum_by, flat_map, sum_by-cons, World, Row, Stands, is, prepared_state, Cells, restated, all_swept, StopRow, CycleRow, End, IsKeptIn, Cycle, has_left, State, Plan, Progress, idle, marking, sweeping, is_idle, start, cycle_started, SweepsRest, IsStop, EndsOrWaits, Finishes, DoesFullCycle, BeginsOrWaits, Proceeds, IsFullDue, with_all_retired, is_short, ClosesOrWaits, ClosesNow, noted, Turn, AreTurns, state_after, last_state, EachCycleHasItsRow}
+use Rattle.nmgc_run_laws.specs.laws.Vocabulary.{ℕ, List, [], length, map, arith, refl, sym, ap, subst, ◌∙◌, Some, None, Bool, true, false, not, cond, inl, inr, length-append, sum_by, flat_map, sum_by-cons, World, Row, Stands, is, prepared_state, Cells, restated, all_swept, StopRow, CycleRow, End, IsKeptIn, Cycle, has_left, State, Plan, Progress, idle, marking, sweeping, is_idle, start, cycle_started, SweepsRest, IsStop, EndsOrWaits, Finishes, DoesFullCycle, BeginsOrWaits, Proceeds, IsFullDue, with_all_retired, is_short, ClosesOrWaits, ClosesNow, noted, Run, Turn, IsRun, AreTurns, state_after, last_state, answer_of, EachCycleHasItsRow}
 use Rattle.nmgc_segment.specs.declared.state.State.TheVariants as stands
 
 -- the number of cycles in progress
@@ -211,17 +211,24 @@ end_idle false true true full quiet_end end idled e = refl
 end_idle false true false full quiet_end end idled e = absurd cc
 end_idle false false quiet full quiet_end end idled e = absurd cc
 
+run_left : (plan : Plan) (run : Run) → IsRun plan run →
+    Left plan (0 + length run.opening.cycles + length (rows_of_turns run.turns)) (last_state run)
+run_left plan run i =
+    turns_counted plan (0 + length run.opening.cycles) run.opening.state run.turns i.turns
+    (stop_counted plan 0 _ (start plan) run.opening.state run.opening.row run.opening.cycles i.opening refl)
+
+-- no cycle is in progress once a run has ended
+pub end_is_idle : (plan : Plan) (run : Run) (end : End) → IsRun plan run → answer_of plan (last_state run) ≡ Some end →
+    is_idle (last_state run).progress ≡ true
+end_is_idle plan run end i e =
+    end_idle (is_short plan (last_state run)) (not (has_left (last_state run).left)) (is_idle (last_state run).progress) _ _ end
+    (run_left plan run i).idle_if_short e
+
 pub each_cycle_has_its_row : EachCycleHasItsRow
 each_cycle_has_its_row plan run rounds stops cycles end i agrees e =
-    let opened : Left plan (0 + length run.opening.cycles) run.opening.state =
-    stop_counted plan 0 _ (start plan) run.opening.state run.opening.row run.opening.cycles i.opening refl in
-    let last : Left plan (0 + length run.opening.cycles + length (rows_of_turns run.turns)) (last_state run) =
-    turns_counted plan (0 + length run.opening.cycles) run.opening.state run.turns i.turns opened in
-    let quiet : is_idle (last_state run).progress ≡ true =
-    end_idle (is_short plan (last_state run)) (not (has_left (last_state run).left)) (is_idle (last_state run).progress) _ _ end last.idle_if_short e in
-    let none : in_progress (last_state run).progress ≡ 0 = idle_none (last_state run).progress quiet in
+    let none : in_progress (last_state run).progress ≡ 0 = idle_none (last_state run).progress (end_is_idle plan run end i e) in
     let rows : length cycles ≡ length run.opening.cycles + length (rows_of_turns run.turns) =
     ap (λ (rows : List CycleRow). length rows) agrees.cycles_are ∙ length-append run.opening.cycles (rows_of_turns run.turns) in
     let counted : 0 + length run.opening.cycles + length (rows_of_turns run.turns) + in_progress (last_state run).progress ≡
-    (last_state run).begun = last.counted in
+    (last_state run).begun = (run_left plan run i).counted in
     omega (arith, none, rows, counted)

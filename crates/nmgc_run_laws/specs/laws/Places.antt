@@ -4,7 +4,7 @@ use Rattle.nmgc_run_laws.specs.laws.Vocabulary.{ℕ, List, length, arith, refl, 
 use Rattle.nmgc_segment.specs.declared.state.State.TheVariants as stands
 
 -- a name lies in a segment that exists, and in one of its blocks
-lies_exists : (a : AllocState) (number block : ℕ) (name : Name) → LiesIn a number block name → number < length a.segments
+pub lies_exists : (a : AllocState) (number block : ℕ) (name : Name) → LiesIn a number block name → number < length a.segments
 lies_exists a number block name lies = elim (cases_lt number (length a.segments)) [
   | inl lt ↦ lt
   | inr ge ↦
@@ -12,7 +12,7 @@ lies_exists a number block name lies = elim (cases_lt number (length a.segments)
       absurd (none_some (name_in (cells a number) block) name (ap (λ (c : Cells). name_in c block) past) lies)
 ]
 
-lies_within : (a : AllocState) (number block : ℕ) (name : Name) → LiesIn a number block name → block < length (cells a number).names
+pub lies_within : (a : AllocState) (number block : ℕ) (name : Name) → LiesIn a number block name → block < length (cells a number).names
 lies_within a number block name lies = elim (cases_lt block (length (cells a number).names)) [
   | inl lt ↦ lt
   | inr ge ↦ absurd (none_some (name_in (cells a number) block) name (get_or-eq_default (cells a number).names None {n = block} ge) lies)

@@ -131,13 +131,13 @@ module _ (Q : Value → Type 0) where
   free_has (Stack size values) h = All-nil Q
 
   top_has : (own : Bool) (node : Node) → Fields Q node → All Q (top_held own node)
-  top_has true (Con tag values) h = All-nil Q
-  top_has true (Var old) h = All-nil Q
-  top_has true (Arr values) h = All-nil Q
-  top_has true (Thunk free result) h = All-nil Q
-  top_has true (Weak parts) h = All-nil Q
+  top_has own (Con tag values) h = All-nil Q
+  top_has own (Var old) h = All-nil Q
+  top_has own (Arr values) h = All-nil Q
+  top_has own (Thunk free result) h = All-nil Q
+  top_has own (Weak parts) h = All-nil Q
   top_has true (Stack size values) h = option_has (last_of values) (item_has Q values (length values - 1) h)
-  top_has false node h = All-nil Q
+  top_has false (Stack size values) h = All-nil Q
 
   pub owed_fields : (c : Change) (name : Name) (node : Node) → IsStrongChange c → Fields Q node → All Q (owed_in c name node)
   owed_fields (change.Set index v) name node s h = option_has (field_held node index) (held_has node index h)

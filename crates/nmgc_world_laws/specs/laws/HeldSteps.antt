@@ -1,6 +1,6 @@
 -- No command brings back a name that nothing held.
 use Rattle.std.specs.Prelude.{◌≡◌, ◌≢◌}
-use Rattle.nmgc_world_laws.specs.laws.Vocabulary.{ℕ, List, get_or, refl, sym, subst, Option, Some, None, inl, inr, IsSome, IfSome, All, Contains, All-contains, Contains-append_left, Contains-append_right, Contains-append_cases, Contains-get_or, Operand, Command, SHARED_MAKER, Name, Value, Parts, Node, Con, Var, Arr, Thunk, Weak, Stack, World, state_of, node_of, value_read, shared_name, value_for, object_of, read_object, step, name_in, given_name, opened_in, opened_by, IsRoot, IsAlive, strong_fields, at_some, nothing_in, one_is, Names, OfParts, Fields, CoversReach, IsOfWeak, HoldsOnly, StepHoldsOnly}
+use Rattle.nmgc_world_laws.specs.laws.Vocabulary.{ℕ, List, get_or, refl, sym, subst, Option, Some, None, inl, inr, IsSome, IfSome, All, Contains, All-contains, Contains-append_left, Contains-append_right, Contains-append_cases, Contains-get_or, Operand, Command, SHARED_MAKER, Name, Value, Parts, Node, Con, Var, Arr, Thunk, Weak, Stack, World, state_of, node_of, value_read, shared_name, value_for, object_of, read_object, step, name_in, value_opened, opened_in, opened_by, IsRoot, IsAlive, strong_fields, at_some, nothing_in, one_is, Names, OfParts, Fields, CoversReach, IsOfWeak, HoldsOnly, StepHoldsOnly}
 use Rattle.nmgc_world_spec.specs.declared.command.Command.TheVariants as command
 use Rattle.nmgc_world_spec.specs.declared.value.Value.TheVariants as value
 use Rattle.nmgc_world_laws.specs.laws.{Worlds.not_shared, Moves.operand_has, WeakMoves.all_moves, Alive.AliveOk, Alive.WeaksOk, Alive.step_weaks}
@@ -44,7 +44,7 @@ module _ (P : Name → Type 0) where
   pub opened_has : (w : World) (m : ℕ) (c : Command) → WeaksOk OfNames w → (n : Name) → Contains (opened_by w m c) n → P n
   opened_has w m (command.Deref dest object) h n c = by_value (value_for w m object) c
     where
-      by_node : (name : Name) (o : Option Node) → IfSome o (AliveOk OfNames name) → Contains (given_name (read_object o value_read)) n → P n
+      by_node : (name : Name) (o : Option Node) → IfSome o (AliveOk OfNames name) → Contains (value_opened o) n → P n
       by_node name None k d = absurd (nothing_in n d)
       by_node name (Some (Con tag values)) k d = absurd (nothing_in n d)
       by_node name (Some (Var x)) k d = absurd (nothing_in n d)
@@ -54,7 +54,7 @@ module _ (P : Name → Type 0) where
       by_node name (Some (Weak (Some parts))) k d = in_names parts.value n k.1.1 d
       by_node name (Some (Stack size values)) k d = absurd (nothing_in n d)
 
-      by_value : (v : Value) → Contains (given_name (read_object (object_of w v) value_read)) n → P n
+      by_value : (v : Value) → Contains (value_opened (object_of w v)) n → P n
       by_value value.Nil d = absurd (nothing_in n d)
       by_value (value.Number k) d = absurd (nothing_in n d)
       by_value (value.Ref name) d = by_node name (node_of w name) (h name) d

@@ -1,7 +1,7 @@
 -- The changes that any command may make, also on weak pointers. `deref` and `finalise` give and owe opened names and the weak
 -- pointer itself, so all of these are in the set if all opened names are.
 use Rattle.std.specs.Prelude.{◌≡◌, ◌≢◌, ◌<◌, ◌∷◌, ◌⊎◌}
-use Rattle.nmgc_world_laws.specs.laws.Vocabulary.{ℕ, List, [], length, refl, sym, subst, Option, Some, None, inl, inr, IfSome, All, Contains, All-cons, All-nil, All-head, Contains-append_left, Contains-append_right, Contains-append_cases, Command, SHARED_MAKER, Name, Value, Parts, Node, Con, Var, Arr, Thunk, Weak, Stack, World, state_of, node_of, given, changed, value_read, shared_name, value_for, next_name, object_of, read_object, change_node, change_object, change_into, step, IsAlive, IsKeptBy, name_in, given_name, opened_in, opened_by, finalised_in, finalised_by, contains_head, contains_tail, at_some, nothing_in, contains_one, one_is, contains_flat, owed_of, owed_in, owed_at, value_held, values_owed, names_among, owed_by, Names, Fields, CoversReach, strong_at, IsLater}
+use Rattle.nmgc_world_laws.specs.laws.Vocabulary.{ℕ, List, [], length, refl, sym, subst, Option, Some, None, inl, inr, IfSome, All, Contains, All-cons, All-nil, All-head, Contains-append_left, Contains-append_right, Contains-append_cases, Command, SHARED_MAKER, Name, Value, Parts, Node, Con, Var, Arr, Thunk, Weak, Stack, World, state_of, node_of, given, changed, value_read, shared_name, value_for, next_name, object_of, read_object, change_node, change_object, change_into, step, IsAlive, IsKeptBy, name_in, value_opened, opened_in, opened_by, finalised_in, finalised_by, contains_head, contains_tail, at_some, nothing_in, contains_one, one_is, contains_flat, owed_of, owed_in, owed_at, value_held, values_owed, names_among, owed_by, Names, Fields, CoversReach, strong_at, IsLater}
 use Rattle.nmgc_world_spec.specs.declared.command.Command.TheVariants as command
 use Rattle.nmgc_world_spec.specs.declared.change.Change.TheVariants as change
 use Rattle.nmgc_world_spec.specs.declared.value.Value.TheVariants as value
@@ -53,7 +53,7 @@ module _ (P : Name → Type 0) where
   of_value (value.Ref n) h = h n (contains_one n)
 
   -- the values that `deref` owes and gives
-  deref_owes : (o : Option Node) → ((n : Name) → Contains (given_name (read_object o value_read)) n → P n) → All (Names P) (value_held o)
+  deref_owes : (o : Option Node) → ((n : Name) → Contains (value_opened o) n → P n) → All (Names P) (value_held o)
   deref_owes (Some (Weak (Some parts))) h = All-cons (Names P) parts.value [] (of_value parts.value h) (All-nil (Names P))
   deref_owes (Some (Weak None)) h = All-nil (Names P)
   deref_owes (Some (Con tag values)) h = All-nil (Names P)
@@ -148,7 +148,7 @@ in_one values v name h k = contains_flat name_in values v name h k
 pub opened_owed : (w : World) (m : ℕ) (c : Command) (name : Name) → Contains (opened_by w m c) name → Contains (owed_by w m c) name
 opened_owed w m (command.Deref dest object) name h = by_node (object_of w (value_for w m object)) h
   where
-    by_node : (o : Option Node) → Contains (given_name (read_object o value_read)) name → Contains (names_among (value_held o)) name
+    by_node : (o : Option Node) → Contains (value_opened o) name → Contains (names_among (value_held o)) name
     by_node (Some (Weak (Some parts))) k = in_one (parts.value ∷ []) parts.value name (contains_one parts.value) k
     by_node (Some (Weak None)) k = absurd (nothing_in name k)
     by_node (Some (Con tag values)) k = absurd (nothing_in name k)

@@ -1,4 +1,4 @@
-use Rattle.nmgc_fin.proofs.{Vocabulary.rules, Vocabulary.◌≡◌, Vocabulary.◌+◌, Vocabulary.◌-◌, Vocabulary.List, Vocabulary.[], Vocabulary.◌∷◌, Vocabulary.◌++◌, Vocabulary.length, Vocabulary.vec_len, Vocabulary.ap, Vocabulary.sym, Vocabulary.◌∙◌, Vocabulary.arith, Vocabulary.Job, Vocabulary.Hand, Vocabulary.Worker, Vocabulary.hand, Vocabulary.most_parts, Vocabulary.joined, Vocabulary.lists_of, Rules.merges, Gathered.client_more, Gathered.last_at, Gathered.worker_at, Gathered.front_are, Gathered.all_handled, Gathered.so_many, Gathered.last_listed, Gathered.knows_more}
+use Rattle.nmgc_fin.proofs.{Vocabulary.rules, Vocabulary.◌≡◌, Vocabulary.◌+◌, Vocabulary.◌-◌, Vocabulary.List, Vocabulary.[], Vocabulary.◌∷◌, Vocabulary.◌++◌, Vocabulary.length, Vocabulary.vec_len, Vocabulary.ap, Vocabulary.sym, Vocabulary.subst, Vocabulary.IsSegPassOf, Vocabulary.◌∙◌, Vocabulary.arith, Vocabulary.Job, Vocabulary.Hand, Vocabulary.Worker, Vocabulary.hand, Vocabulary.most_parts, Vocabulary.joined, Vocabulary.lists_of, Rules.merges, Gathered.client_more, Gathered.last_at, Gathered.worker_at, Gathered.front_are, Gathered.all_handled, Gathered.so_many, Gathered.last_listed, Gathered.knows_more}
 use Rattle.nmgc_fin.proofs.run.gather.Goals as goal
 
 pub join_all-requires-clause-part : goal.join_all-requires-clause-part
@@ -21,7 +21,10 @@ absorb-requires-clause-queue g c =
     let popped : c.args.crew.items ≡ before ++ c.in-Some.last ∷ [] = search rules in
     let it = worker_at c.args.queue.now c.args.jobs.now c.args.crew.items c.requires.crew (length before) c.in-Some.last
     (last_at c.args.crew.items before c.in-Some.last popped) in
-    (c.in_ok-by.ensures.pass, it.pass)
+    (
+      subst (λ p. IsSegPassOf c.args.queue.now p) (sym c.replace-theirs.ensures.after) c.in_ok-by.ensures.pass,
+      subst (λ p. IsSegPassOf c.args.queue.now p) (sym c.replace-theirs.ensures.value) it.pass,
+    )
 
 pub absorb-requires-clause-rule : goal.absorb-requires-clause-rule
 absorb-requires-clause-rule g c =
@@ -29,8 +32,10 @@ absorb-requires-clause-rule g c =
     let first : c.args.pass.me.view.client.parts ≡ most_parts - vec_len c.args.crew = ap (λ (v : Hand). v.parts) c.requires.left in
     let parts : c.join_all.new.pass.me.view.client.parts ≡ c.args.pass.me.view.client.parts + length c.pop.new.self.items =
     ap (λ (v : Hand). v.parts) c.in_ok-by.ensures.joined in
-    merges c.join_all.new.pass.id c.join_all.new.pass.me.view.client c.in-Some.last.pass.id c.in-Some.last.pass.me.view.client
-    (omega (arith, first, parts, few))
+    let after : c.replace-theirs.new.dest.me.view.client.parts ≡ c.join_all.new.pass.me.view.client.parts =
+    ap (λ p. p.me.view.client.parts) c.replace-theirs.ensures.after in
+    merges c.replace-theirs.new.dest.id c.replace-theirs.new.dest.me.view.client c.replace-theirs.result.id c.replace-theirs.result.me.view.client
+    (omega (arith, first, parts, few, after))
 
 pub work-requires-after_bounds : goal.work-requires-after_bounds
 work-requires-after_bounds g c κs within =
@@ -39,8 +44,10 @@ work-requires-after_bounds g c κs within =
     let last = c.in-Some.last in
     let popped : c.args.crew.items ≡ before ++ last ∷ [] = search rules in
     let it = worker_at c.args.queue.now c.args.jobs.now c.args.crew.items c.requires.crew (length before) last (last_at c.args.crew.items before last popped) in
-    let knows = client_more n c.args.jobs.now before last c.join_all.new.pass.me.view.client last.pass.me.view.client
-    c.absorb.new.pass.me.view.client c.in_ok-by.ensures.joined it.knows c.absorb.ensures.rule in
+    let knows = client_more n c.args.jobs.now before last c.replace-theirs.new.dest.me.view.client
+    c.replace-theirs.result.me.view.client c.absorb.new.pass.me.view.client
+    (ap (λ p. p.me.view.client) c.replace-theirs.ensures.after ∙ c.in_ok-by.ensures.joined)
+    (ap (λ p. p.me.view.client) c.replace-theirs.ensures.value ∙ it.knows) c.absorb.ensures.rule in
     let few = c.requires.count.1 in
     let first : n ≡ most_parts - vec_len c.args.crew = ap (λ (v : Hand). v.parts) c.requires.left in
     let parts : c.absorb.new.pass.me.view.client.parts ≡ n + length (before ++ last ∷ []) = ap (λ (v : Hand). v.parts) knows in
@@ -60,8 +67,10 @@ returns-clause-handled g c =
     let last = c.in-Some.last in
     let popped : c.args.crew.items ≡ before ++ last ∷ [] = search rules in
     let it = worker_at c.args.queue.now c.args.jobs.now c.args.crew.items c.requires.crew (length before) last (last_at c.args.crew.items before last popped) in
-    let knows = client_more n c.args.jobs.now before last c.join_all.new.pass.me.view.client last.pass.me.view.client
-    c.absorb.new.pass.me.view.client c.in_ok-by.ensures.joined it.knows c.absorb.ensures.rule in
+    let knows = client_more n c.args.jobs.now before last c.replace-theirs.new.dest.me.view.client
+    c.replace-theirs.result.me.view.client c.absorb.new.pass.me.view.client
+    (ap (λ p. p.me.view.client) c.replace-theirs.ensures.after ∙ c.in_ok-by.ensures.joined)
+    (ap (λ p. p.me.view.client) c.replace-theirs.ensures.value ∙ it.knows) c.absorb.ensures.rule in
     let few = c.requires.count.1 in
     let first : n ≡ most_parts - vec_len c.args.crew = ap (λ (v : Hand). v.parts) c.requires.left in
     let long : vec_len c.args.crew ≡ length c.args.crew.items = c.args.crew.ok.0 in
@@ -72,7 +81,7 @@ returns-clause-handled g c =
     c.absorb.new.pass.me.view.client c.work.new.self.pass.me.view.client knows every c.work.ensures.taken.knows in
     all_handled c.args.jobs.now before last more c.work.new.self.done.items c.work.new.self.pass.me.view.client c.in_ok-by.by c.push.new.self all
     c.work.ensures.none c.work.ensures.taken.listed c.in_ok-by.ensures.lists (c.in_ok-push.ensures.ok ∙
-    ap (λ (x : List Job). c.in_ok-by.by ++ x ∷ []) c.in_ok-from_vec.ensures)
+    ap (λ (x : List Job). c.in_ok-by.by ++ x ∷ []) (c.in_ok-from_vec.ensures ∙ ap (λ v. v.items) c.into_parts-done.ensures.done))
 
 pub returns-clause-lists : goal.returns-clause-lists
 returns-clause-lists g c =
@@ -81,4 +90,4 @@ returns-clause-lists g c =
     let popped : c.args.crew.items ≡ before ++ last ∷ [] = search rules in
     let long : vec_len c.args.crew ≡ length c.args.crew.items = c.args.crew.ok.0 in
     so_many before last c.work.new.self.done.items c.in_ok-by.by c.push.new.self c.in_ok-by.ensures.lists (c.in_ok-push.ensures.ok ∙
-    ap (λ (x : List Job). c.in_ok-by.by ++ x ∷ []) c.in_ok-from_vec.ensures) ∙ ap (λ (l : List Worker). length l) (sym popped) ∙ sym long
+    ap (λ (x : List Job). c.in_ok-by.by ++ x ∷ []) (c.in_ok-from_vec.ensures ∙ ap (λ v. v.items) c.into_parts-done.ensures.done)) ∙ ap (λ (l : List Worker). length l) (sym popped) ∙ sym long

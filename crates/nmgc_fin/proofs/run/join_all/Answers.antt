@@ -1,4 +1,4 @@
-use Rattle.nmgc_fin.proofs.{Vocabulary.rules, Vocabulary.◌≡◌, Vocabulary.◌+◌, Vocabulary.List, Vocabulary.[], Vocabulary.◌∷◌, Vocabulary.◌++◌, Vocabulary.length, Vocabulary.ap, Vocabulary.sym, Vocabulary.◌∙◌, Vocabulary.append_assoc, Vocabulary.append-nil, Vocabulary.arith, Vocabulary.into_iter_items, Vocabulary.Job, Vocabulary.Hand, Vocabulary.Worker, Vocabulary.hand, Vocabulary.joined, Vocabulary.lists_of, Rules.merges, Gathered.lists_more, Gathered.client_more, Gathered.comes_at, Gathered.worker_at, Gathered.none_left}
+use Rattle.nmgc_fin.proofs.{Vocabulary.rules, Vocabulary.◌≡◌, Vocabulary.◌+◌, Vocabulary.List, Vocabulary.[], Vocabulary.◌∷◌, Vocabulary.◌++◌, Vocabulary.length, Vocabulary.ap, Vocabulary.sym, Vocabulary.subst, Vocabulary.IsSegPassOf, Vocabulary.◌∙◌, Vocabulary.append_assoc, Vocabulary.append-nil, Vocabulary.arith, Vocabulary.into_iter_items, Vocabulary.Job, Vocabulary.Hand, Vocabulary.Worker, Vocabulary.hand, Vocabulary.joined, Vocabulary.lists_of, Rules.merges, Gathered.lists_more, Gathered.client_more, Gathered.comes_at, Gathered.worker_at, Gathered.none_left}
 use Rattle.nmgc_fin.proofs.run.join_all.Goals as goal
 
 pub absorb-requires-clause-queue : goal.absorb-requires-clause-queue
@@ -10,14 +10,14 @@ absorb-requires-clause-queue c =
     let all : ms ++ w ∷ rest ≡ c.args.crew.items =
     ap (λ (l : List Worker). ms ++ l) (sym c.in-Some.ensures.steps.0) ∙ c.loop-worker.invariant.all ∙ is in
     let it = worker_at c.args.queue.now c.args.jobs.now c.args.crew.items c.requires.crew (length ms) w (comes_at c.args.crew.items ms rest w all) in
-    (c.loop-worker.invariant.at_queue, it.pass)
+    (c.loop-worker.invariant.at_queue, subst (λ p. IsSegPassOf c.args.queue.now p) (sym c.into_parts-theirs.ensures.pass) it.pass)
 
 pub absorb-requires-clause-rule : goal.absorb-requires-clause-rule
 absorb-requires-clause-rule c =
     let some = c.requires.part in
     let parts : c.loop-worker.pass.me.view.client.parts ≡ c.args.pass.now.me.view.client.parts + length c.loop-worker.yielded =
     ap (λ (v : Hand). v.parts) c.loop-worker.invariant.client in
-    merges c.loop-worker.pass.id c.loop-worker.pass.me.view.client c.in-Some.worker.pass.id c.in-Some.worker.pass.me.view.client
+    merges c.loop-worker.pass.id c.loop-worker.pass.me.view.client c.into_parts-theirs.result.0.id c.into_parts-theirs.result.0.me.view.client
     (omega (arith, parts, some))
 
 pub loop-worker-preserved : goal.loop-worker-preserved
@@ -33,9 +33,11 @@ loop-worker-preserved c =
     record {
       all = append_assoc ms (w ∷ []) rest ∙ all;
       at_queue = c.absorb.ensures.queue.0;
-      client = client_more c.args.pass.now.me.view.client.parts c.args.jobs.now ms w c.loop-worker.pass.me.view.client w.pass.me.view.client _
-          c.loop-worker.invariant.client it.knows c.absorb.ensures.rule;
-      by_are = c.in_ok-push.ensures.ok ∙ ap (λ (x : List Job). c.loop-worker.by ++ x ∷ []) c.in_ok-from_vec.ensures ∙
+      client = client_more c.args.pass.now.me.view.client.parts c.args.jobs.now ms w c.loop-worker.pass.me.view.client
+          c.into_parts-theirs.result.0.me.view.client _ c.loop-worker.invariant.client
+          (ap (λ p. p.me.view.client) c.into_parts-theirs.ensures.pass ∙ it.knows) c.absorb.ensures.rule;
+      by_are = c.in_ok-push.ensures.ok ∙
+          ap (λ (x : List Job). c.loop-worker.by ++ x ∷ []) (c.in_ok-from_vec.ensures ∙ ap (λ v. v.items) c.into_parts-theirs.ensures.done) ∙
           ap (λ (l : List (List Job)). l ++ w.done.items ∷ []) c.loop-worker.invariant.by_are ∙ sym (lists_more ms w);
     }
 

@@ -6,4 +6,4 @@ use Rattle.nmgc_run_laws.proofs.laws.free_segments_are_counted.Goals as goal
 
 pub returns : goal.returns
 returns c = λ script report h. last_free script report h ∙
-    sym (c.counts_are_equal.ensures report.segments report.words (last_state h.run).allocation stands.Free h.heap.holds.stands)
+    sym (c.counts_are_equal.ensures report.segments report.words (last_state h.run).allocation stands.Free h.heap.stands)

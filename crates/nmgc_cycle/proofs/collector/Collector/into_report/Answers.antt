@@ -1,4 +1,4 @@
-use Rattle.nmgc_cycle.proofs.{Vocabulary.◌≡◌, Vocabulary.◌∙◌, Vocabulary.List, Vocabulary.length, Vocabulary.map, Vocabulary.ap, Vocabulary.sym, Vocabulary.subst, Vocabulary.length-map, Vocabulary.All, Vocabulary.refill, Vocabulary.refill_whole, Vocabulary.CycleRow, Vocabulary.IsLawful, Vocabulary.report_row, Vocabulary.HasNamesOnce, stops.Censuses.names_once, stops.Reported.kept_of, stops.Reported.reported, stops.Reported.same_parts, stops.Reported.words_had}
+use Rattle.nmgc_cycle.proofs.{Vocabulary.◌≡◌, Vocabulary.◌∙◌, Vocabulary.List, Vocabulary.length, Vocabulary.map, Vocabulary.ap, Vocabulary.sym, Vocabulary.subst, Vocabulary.length-map, Vocabulary.All, Vocabulary.refill, Vocabulary.refill_whole, Vocabulary.CycleRow, Vocabulary.IsLawfulAtStop, Vocabulary.plan_of, Vocabulary.report_row, Vocabulary.HasNamesOnce, stops.Censuses.names_once, stops.Reported.kept_of, stops.Reported.reported, stops.Reported.same_parts, stops.Reported.words_had}
 use Rattle.nmgc_cycle.proofs.collector.Collector.into_report.Goals as goal
 
 pub unwrap-requires : goal.unwrap-requires
@@ -24,7 +24,7 @@ returns-clause-parts c =
 
 pub returns-clause-reported : goal.returns-clause-reported
 returns-clause-reported c = λ script ended.
-    subst (IsLawful script) (sym (same_parts c.args.self c.args.end _ _ _ _
+    subst (IsLawfulAtStop (plan_of script)) (sym (same_parts c.args.self c.args.end _ _ _ _
     (in_order_there c.args.self.rows.cycles c.items_mut.result.now c.put_rows_in_order.new.rows c.items_mut.ensures.value c.put_rows_in_order.ensures)
     (c.of_table.ensures ∙ c.close-words.ensures.words ∙ words_had c.args.self.heap.words c.unwrap.result c.unwrap.ensures)
     (c.from_vec_in.ensures ∙ c.all_ends-ends.ensures)

@@ -1,4 +1,4 @@
-use Rattle.nmgc_cycle.proofs.{Vocabulary.◌∷◌, Vocabulary.[], Vocabulary.List, Vocabulary.length, Vocabulary.length-append, Vocabulary.arith, Vocabulary.ap, Vocabulary.subst, Vocabulary.StopRow, Vocabulary.lawful_are_of_runs, Vocabulary.HasAnswered, lengths.Few.stop_fits}
+use Rattle.nmgc_cycle.proofs.{Vocabulary.◌∷◌, Vocabulary.[], Vocabulary.List, Vocabulary.length, Vocabulary.length-append, Vocabulary.arith, Vocabulary.ap, Vocabulary.subst, Vocabulary.StopRow, Vocabulary.lawful_are_of_runs, Vocabulary.stop_is_lawful, Vocabulary.HasAnswered, lengths.Few.stop_fits}
 use Rattle.nmgc_cycle.proofs.collector.Collector.run.Goals as goal
 
 pub stops-smaller : goal.stops-smaller
@@ -22,12 +22,13 @@ into_report-requires-in-HeapFull g c = (c.args.script.now, subst (HasAnswered c.
 
 pub returns-in-Done : goal.returns-in-Done
 returns-in-Done g c =
-    let lawful = c.into_report.ensures.reported c.args.script.now
-    (subst (HasAnswered c.args.script.now c.stop.new.self) c.in-Done.is c.in_ok-stop.ensures.answered) in
+    let lawful = stop_is_lawful c.args.script.now c.into_report.result c.requires.fits c.requires.few (c.into_report.ensures.reported c.args.script.now
+    (subst (HasAnswered c.args.script.now c.stop.new.self) c.in-Done.is c.in_ok-stop.ensures.answered)) in
     (lawful_are_of_runs c.args.script.now c.into_report.result c.requires.fits c.requires.few lawful).0
 
 pub returns-in-HeapFull : goal.returns-in-HeapFull
 returns-in-HeapFull g c =
-    let lawful = c.into_report-in-HeapFull.ensures.reported c.args.script.now
-    (subst (HasAnswered c.args.script.now c.stop.new.self) c.in-HeapFull.is c.in_ok-stop.ensures.answered) in
+    let lawful = stop_is_lawful c.args.script.now c.into_report-in-HeapFull.result c.requires.fits c.requires.few
+    (c.into_report-in-HeapFull.ensures.reported c.args.script.now
+    (subst (HasAnswered c.args.script.now c.stop.new.self) c.in-HeapFull.is c.in_ok-stop.ensures.answered)) in
     (lawful_are_of_runs c.args.script.now c.into_report-in-HeapFull.result c.requires.fits c.requires.few lawful).0

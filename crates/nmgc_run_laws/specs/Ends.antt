@@ -1,0 +1,11 @@
+-- The heap at the end of a run is the heap at its last stop.
+use Rattle.std.specs.Prelude.{◌≡◌, ◌↔◌, Some}
+use Rattle.nmgc_journal.specs.declared.report.Report.{Report}
+use Rattle.nmgc_script.specs.{Limits.FitsScript, Parts.HasFewCommands, declared.script.Script.Script}
+use Rattle.nmgc_run_spec.specs.{AtStop.HasHeapOfStop, End.HoldsAtEnd, Run.Run, Run.IsRun, Run.last_state, State.plan_of, State.layout_of, Stop.answer_of}
+
+-- the law that at the end of a run of a script within the limits, the heap at the end and the heap at a stop say the same
+abbrev pub EndsAreStops : Type 0
+EndsAreStops = (script : Script) (report : Report) (run : Run) → FitsScript script → HasFewCommands script → IsRun (plan_of script) run →
+    answer_of (plan_of script) (last_state run) ≡ Some report.end →
+    HoldsAtEnd (layout_of (plan_of script)) (last_state run) report ↔ HasHeapOfStop (layout_of (plan_of script)) (last_state run) report
