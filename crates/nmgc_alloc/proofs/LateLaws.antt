@@ -3,7 +3,7 @@ use Rattle.nmgc_alloc.proofs.Vocabulary.{ℕ, ◌≡◌, ◌<◌, ◌↔◌, ◌
 use Rattle.std.specs.Prelude.{if◌then◌else◌}
 use Rattle.std.proofs.lemmas.List.{map-set}
 use Rattle.nmgc_segment.specs.declared.state.State.TheVariants as state
-use Rattle.nmgc_alloc.specs.{Stands.prepared_snap, declared.search.Category.TheVariants.Sweeping}
+use Rattle.nmgc_alloc.specs.{AllocState.prepared_snap, declared.search.Category.TheVariants.Sweeping}
 use Rattle.nmgc_alloc.proofs.{CycleStepLaws.prepared_count, CycleStepLaws.prepared_not_filled, TallyLaws.count-map, TallyLaws.none_mapped}
 
 pub layout_seen : (late : Bool) (s : Segments) → (seen_late late s).layout ≡ s.layout

@@ -2,7 +2,7 @@
 use Rattle.std.specs.Prelude.{ℕ, ◌≡◌, ◌+◌, ◌<◌, ◌≤◌, ◌⊎◌, List, length, slice_index}
 use Rattle.nmgc_limits.specs.Limits.{most_segments}
 use Rattle.nmgc_segment.specs.Segment.{Segment}
-use Rattle.nmgc_alloc.specs.{declared.filing.Filed.Filed, declared.search.Category.Category, declared.search.Category.TheVariants.Free, declared.search.Category.TheVariants.Active, declared.search.Category.TheVariants.Sweeping, declared.tables.TheConstants.CLASSES, declared.tally.Tally.Tally, Numbered.nth, Search.Is, Search.IsTally, Search.sought_count, Segments.filled_count}
+use Rattle.nmgc_alloc.specs.{declared.filing.Filed.Filed, declared.search.Category.Category, declared.search.Category.TheVariants.Free, declared.search.Category.TheVariants.Active, declared.search.Category.TheVariants.Sweeping, declared.tables.TheConstants.CLASSES, declared.tally.Tally.Tally, AllocState.nth, Search.Is, Search.IsTally, Search.sought_count, Segments.filled_count}
 
 -- a kind that a segment may have after a sweep and that is searched for: free, or active of a class
 abbrev pub IsOutcome : Category → Type 0

@@ -1,7 +1,7 @@
 -- The invariant of an allocation state, names without a block, and the words that a placing writes.
 use Rattle.std.specs.Prelude.{ℕ, ◌≡◌, ◌+◌, ◌/◌, ◌<◌, ◌≤◌, ◌⊎◌, List, length, slice_index}
 use Rattle.nmgc_world_spec.specs.declared.value.Name.{Name}
-use Rattle.nmgc_object.specs.{declared.layout.Layout.Layout, Size.block_size, Size.name_place, Words.name_word}
+use Rattle.nmgc_object.specs.{declared.layout.Layout.Layout, Words.block_size, Words.name_place, Words.name_word}
 use Rattle.nmgc_alloc.specs.AllocState.{no_cells, AllocState, cells, AreNames, LiesIn, IsIn, IsOf, count_in}
 use Rattle.nmgc_segment.specs.declared.state.State.TheVariants as stands
 

@@ -2,7 +2,7 @@
 use Rattle.std.specs.Prelude.{ℕ, ◌≡◌, ◌⊎◌, ◌<◌, ◌≢◌}
 use Rattle.nmgc_segment.specs.{Marks.epoch_of, Segment.mark_of}
 use Rattle.nmgc_segment.specs.declared.state.State.TheVariants as stands
-use Rattle.nmgc_alloc.specs.Numbered.{nth, Segments, HasNumber}
+use Rattle.nmgc_alloc.specs.AllocState.{nth, Segments, HasNumber}
 
 -- a mark byte that is 0 or the epoch of the last cycle begun; before the first cycle it is 0
 abbrev pub IsSettledByte : ℕ → ℕ → Type 0

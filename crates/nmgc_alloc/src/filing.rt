@@ -9,7 +9,7 @@
 //! look at other segments than after single sweeps, and at some once more. It finds the same segment.
 ghost use Rattle.std.specs.Prelude.{◌≡◌, ◌+◌, ◌<◌, ◌≤◌, length};
 ghost use Rattle.nmgc_limits.specs.Limits.{most_segments};
-ghost use Rattle.nmgc_alloc.specs.{declared.tables.TheConstants.CLASSES as classes, declared.tables.TheConstants.KINDS as kinds, declared.search.Category.Category as Kind, declared.search.Category.TheVariants.Sweeping as waiting, Numbered.is, Search.is_for, Search.tally_of, CycleSteps.state_of, Filing.IsOutcome, Filing.CountsNone, Filing.gained, Filing.AreFew, Filing.EntersMany, laws.Counts.one_if};
+ghost use Rattle.nmgc_alloc.specs.{declared.tables.TheConstants.CLASSES as classes, declared.tables.TheConstants.KINDS as kinds, declared.search.Category.Category as Kind, declared.search.Category.TheVariants.Sweeping as waiting, AllocState.is, Search.is_for, Search.tally_of, CycleSteps.state_of, Filing.IsOutcome, Filing.CountsNone, Filing.gained, Filing.AreFew, Filing.EntersMany, laws.Counts.one_if};
 ghost use Rattle.nmgc_segment.specs.declared.state.State.TheVariants as state;
 
 use crate::search::Category;

@@ -10,7 +10,7 @@ ghost use Rattle.std.specs.Prelude.{ℕ, ◌≡◌, ◌+◌, ◌-◌, ◌/◌, �
 ghost use Rattle.nmgc_limits.specs.Limits.{most_segments};
 ghost use Rattle.nmgc_segment.specs.Marks.{IsEpoch};
 ghost use Rattle.nmgc_segment.specs.declared.state.State.TheVariants as state;
-ghost use Rattle.nmgc_alloc.specs.{declared.search.Category.Category, declared.search.Category.TheVariants.Sweeping, Numbered.is, Search.NoneBelow, Search.is_in_category, Search.sought_count, Filing.IsOutcome, Filing.CountsNone, Filing.gained, Filing.AreFew, Filing.Files, Halves.IsInHalf, Halves.SweptWaiting, Halves.AllSwept, Halves.FirstSwept, laws.Counts.one_if};
+ghost use Rattle.nmgc_alloc.specs.{declared.search.Category.Category, declared.search.Category.TheVariants.Sweeping, AllocState.is, Search.NoneBelow, Search.is_in_category, Search.sought_count, Filing.IsOutcome, Filing.CountsNone, Filing.gained, Filing.AreFew, Filing.Files, Halves.IsInHalf, Halves.SweptWaiting, Halves.AllSwept, Halves.FirstSwept, laws.Counts.one_if};
 
 use crate::cycle_steps;
 use crate::filing::Filed;

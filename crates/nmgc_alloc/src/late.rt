@@ -13,7 +13,7 @@
 ghost use Rattle.std.specs.Prelude.{ℕ, ◌≡◌, ◌≢◌, ◌↔◌, ◌<◌, map, min, count_by, slice_set, IsTrue, IfOk, IfSome, IfNone, if◌then◌else◌};
 ghost use Rattle.nmgc_object.specs.Layouts.{IsLayout};
 ghost use Rattle.nmgc_segment.specs.{Marks.IsEpoch, Invariant.InSnapshot, Invariant.IsMarked, Segment.block_count};
-ghost use Rattle.nmgc_alloc.specs.{Stands.prepared, CycleSteps.carried_over, CycleSteps.retired, Stands.seen_late, declared.search.Category.TheVariants.Sweeping, Numbered.is, Numbered.nth, Search.sought_count, Halves.IsInHalf, Halves.SweepsMany};
+ghost use Rattle.nmgc_alloc.specs.{AllocState.prepared, AllocState.seen_late, AllocState.is, AllocState.nth, CycleSteps.carried_over, CycleSteps.retired, declared.search.Category.TheVariants.Sweeping, Search.sought_count, Halves.IsInHalf, Halves.SweepsMany};
 
 use crate::cycle_steps;
 use crate::segments::Segments as Done;
@@ -35,7 +35,7 @@ pub struct Segments {
 impl Model for Segments {
     ghost use Rattle.std.specs.Prelude.{IsTrue};
     ghost use Rattle.nmgc_segment.specs.declared.state.State.TheVariants.{Sweeping as Waiting};
-    ghost use Rattle.nmgc_alloc.specs.{Numbered.Segments as Shown, Stands.seen_late, Segments.HasNoneIn};
+    ghost use Rattle.nmgc_alloc.specs.{AllocState.Segments as Shown, AllocState.seen_late, Segments.HasNoneIn};
 
     ghost Value = { Shown };
 
@@ -53,7 +53,7 @@ fn either(late: bool, first: u32, second: u32) -> u32
 
 impl Segments {
     ghost use Rattle.nmgc_alloc.specs.Segments.{all_free, IsMutator, IsClass, HasRoom, HasNoneIn, Allocates, SweepsNext, IsBlockAt, IsSegments, MarksBlock, MarksIfBlock, IsToMark, marked_if};
-    ghost use Rattle.nmgc_alloc.specs.Numbered.{HasNumber, block_place};
+    ghost use Rattle.nmgc_alloc.specs.AllocState.{HasNumber, block_place};
 
     /// Makes all segments of a layout, each of them free. No other call takes memory. Fails with `NoMemory` if there is none.
     pub fn new(alloc: Global, layout: Layout) -> Result<Self, NoMemory>

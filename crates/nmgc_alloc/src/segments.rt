@@ -10,9 +10,9 @@
 //! Easy to get wrong: the number in the table may be of a segment that has been filled or retired since, so the code reads
 //! its state. A current segment that isn't in the table is never found, so each new one is written there.
 ghost use Rattle.std.specs.Prelude.{ℕ, ◌≡◌, ◌≢◌, ◌↔◌, ◌+◌, ◌<◌, ◌≤◌, ◌/◌, ◌%◌, map, min, replicate, count_by, slice_set, IsTrue, IfOk, IfSome, IfNone};
-ghost use Rattle.nmgc_object.specs.{Layouts.IsLayout, Layouts.IsSegmentSize, Places.segment_place};
+ghost use Rattle.nmgc_object.specs.{Layouts.IsLayout, Layouts.IsSegmentSize, Words.segment_place};
 ghost use Rattle.nmgc_segment.specs.{Marks.IsEpoch, Segment.free_segment, Segment.block_count};
-ghost use Rattle.nmgc_alloc.specs.{Stands.prepared, CycleSteps.carried_over, CycleSteps.retired, CycleSteps.with_snapshot, Numbered.is, Numbered.nth, Search.sought_count, Search.IsKind, Search.tally_from, Halves.IsInHalf, Halves.SweepsMany};
+ghost use Rattle.nmgc_alloc.specs.{AllocState.prepared, AllocState.is, AllocState.nth, CycleSteps.carried_over, CycleSteps.retired, CycleSteps.with_snapshot, Search.sought_count, Search.IsKind, Search.tally_from, Halves.IsInHalf, Halves.SweepsMany};
 
 use crate::filing::Filed;
 use crate::search::{self, Category};
@@ -39,7 +39,7 @@ pub(crate) struct Segments {
 }
 
 impl Model for Segments {
-    ghost use Rattle.nmgc_alloc.specs.{Numbered.Segments as Shown, Segments.IsSegments, Segments.Leads, Segments.HaveTallies};
+    ghost use Rattle.nmgc_alloc.specs.{AllocState.Segments as Shown, Segments.IsSegments, Segments.Leads, Segments.HaveTallies};
 
     ghost Value = { Shown };
 
@@ -96,7 +96,7 @@ fn first_tallies(alloc: Global, segments: u32) -> Result<Vec<Tally>, NoMemory>
 
 impl Segments {
     ghost use Rattle.nmgc_alloc.specs.Segments.{all_free, IsMutator, IsClass, IsCurrent, HasRoom, HasNone, HasNoneIn, HasNoCurrent, Allocates, SweepsNext, IsBlockAt, IsSegments, IsOwn, IsLeast, IsOpen, CountsFilled, TakesBlock, IsChosen, SweepsSegment, IsToMark, as_current, marked_if};
-    ghost use Rattle.nmgc_alloc.specs.Numbered.{HasNumber, block_place};
+    ghost use Rattle.nmgc_alloc.specs.AllocState.{HasNumber, block_place};
 
     /// Makes all segments of a layout, each of them free. No other call takes memory. Fails with `NoMemory` if there is none.
     pub(crate) fn new(alloc: Global, layout: Layout) -> Result<Self, NoMemory>

@@ -1,7 +1,7 @@
 -- One argument, passed on through a buffer.
 use Rattle.std.specs.Prelude.{◌≡◌, ℕ, ◌<◌, ◌≤◌, List, length, take, slice_get, ⊤, Option, Some, None, Result, Ok, Err}
 use Rattle.std.specs.{Option.option_map, declared.env.FillError.FillError, declared.env.FillError.TheVariants.NotPresent, declared.env.FillError.TheVariants.TooLong}
-use Rattle.nmgc_arguments.specs.Arguments.{passed_as}
+use Rattle.nmgc_arguments.specs.Output.{passed_as}
 
 -- the argument at a position, if there is one, is passed on in this way
 abbrev pub IsPassedAt : Option (List (List ℕ)) → ℕ → Option (List ℕ) → Type 0

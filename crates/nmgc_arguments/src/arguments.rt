@@ -6,7 +6,7 @@
 //! wrong: an argument that can't be read keeps its position. If it were left out, each later argument would move up.
 ghost use Rattle.std.specs.Prelude.{◌≡◌, ℕ, List, [], Option, None, map, string_bytes, IfOk, if◌then◌else◌};
 ghost use Rattle.std.specs.{Io.WritesAtMost, Option.option_map, Str.is_utf8};
-ghost use Rattle.nmgc_arguments.specs.{Buffer.Fills, Arguments.ArePassed, Buffer.IsPassedAt};
+ghost use Rattle.nmgc_arguments.specs.{Buffer.Fills, Output.ArePassed, Buffer.IsPassedAt};
 
 use nmgc_lists::NoMemory;
 use std::alloc::Global;

@@ -3,7 +3,7 @@
 //! An output is complete before its sink is used, so a sink that fails changes only the status. Easy to get wrong: the text
 //! that reports a lack of memory may take none. So a constant text is kept apart from a text that was made.
 ghost use Rattle.std.specs.Prelude.{◌≡◌};
-ghost use Rattle.nmgc_io.specs.Counts.{Rose};
+ghost use Rattle.nmgc_io.specs.Text.{Rose};
 ghost use Rattle.nmgc_arguments.specs.Output.{IsWritten, text_bytes};
 
 use nmgc_io::{Sink, write_all};

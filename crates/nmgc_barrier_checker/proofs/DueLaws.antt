@@ -2,7 +2,7 @@
 use Rattle.std.proofs.{Common.◌≡◌, Common.◌≢◌, Common.◌<◌, Common.ℕ, Common.List, Common.[], Common.◌∷◌, Common.◌++◌, Common.length, Common.refl, Common.sym, Common.ap, Common.subst, Common.◌∙◌, Common.Option, Common.Some, Common.None, Common.Bool, Common.true, Common.false, Common.not, Common.inl, Common.inr, Common.◌⊎◌, lemmas.List.Elements.Contains-append_left, lemmas.List.Elements.Contains-append_right, lemmas.List.Elements.Contains-append_cases}
 use Rattle.std.specs.Prelude.{Contains, IsSome, is_some, filter, ◌&&◌}
 use Rattle.nmgc_limits.specs.declared.mutators.TheConstants.{SHARED_MAKER}
-use Rattle.nmgc_world_spec.specs.{declared.value.Name.Name, declared.value.Value.Value, declared.node.Parts.Parts, declared.node.Node.Node, declared.command.Command.Command, World.World, World.node_of, Change.is_same_name, Step.shared_name, Step.step, Reach.IsKeptBy, History.opened_by, History.finalised_by, History.name_in, laws.Orders.contains_filter, laws.Orders.filter_contains, Owed.names_among, laws.Common.same_ref as ref_is}
+use Rattle.nmgc_world_spec.specs.{declared.value.Name.Name, declared.value.Value.Value, declared.node.Parts.Parts, declared.node.Node.Node, declared.command.Command.Command, World.World, World.node_of, World.is_same_name, World.shared_name, World.step, Reach.IsKeptBy, Reach.opened_by, Reach.finalised_by, Reach.name_in, Reach.names_among, laws.Orders.contains_filter, laws.Orders.filter_contains, laws.Common.same_ref as ref_is}
 use Rattle.nmgc_world_spec.specs.declared.value.Value.TheVariants as value
 use Rattle.nmgc_graph.specs.{Search.parts_of, laws.Common.alive_from_parts as alive_parts, laws.Common.parts_from_alive as parts_alive}
 use Rattle.nmgc_lists.specs.laws.Items.{contains_head, contains_tail, contains_cases, nothing_in, one_is, contains_flat, flat_contains}

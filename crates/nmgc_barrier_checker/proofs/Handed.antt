@@ -1,7 +1,7 @@
 -- The names that are found stored are exactly the names that a command stores.
 use Rattle.nmgc_barrier_checker.proofs.Vocabulary.{◌≡◌, ◌≢◌, ℕ, List, refl, sym, ap, subst, ◌∙◌, Option, Some, None, Bool, true, false, inl, inr, ◌⊎◌, Contains, IsSome, false≢true, Contains-append_left, Contains-append_right, Contains-append_cases, SHARED_MAKER, Name, Value, Node, Con, Var, Arr, Thunk, Weak, Stack, Parts, Command, World, IsWorld, CanApply, state_of, node_of, step, shared_name, strong_fields, names_among, IsAlive, contains_filter, filter_contains, not_shared, next_is_new, at_some, nothing_in, name_among, HasStrongField, strong_at, Field, stands_in, cond, option_to_list, one_is, contains_one}
 use Rattle.nmgc_world_spec.specs.declared.value.Value.TheVariants as value
-use Rattle.nmgc_world_spec.specs.Step.{next_name}
+use Rattle.nmgc_world_spec.specs.World.{next_name}
 use Rattle.nmgc_world_laws.specs.{Stored.Stores, laws.Barrier.place_of_field, laws.Barrier.field_at_place, laws.StoredLaws.step_stores, laws.Alive.AliveOk, laws.Alive.WeaksOk, laws.Alive.step_weaks, laws.HeldSteps.alive_ok as each_weak}
 use Rattle.nmgc_snapshot_laws.specs.Machine.{is_pushed_in}
 use Rattle.nmgc_barrier_laws.specs.{Stored.IsStored, Hybrid.Hybrid, Hybrid.is_scanned, Hybrid.IsHandedOut}

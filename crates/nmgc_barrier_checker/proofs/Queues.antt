@@ -1,6 +1,6 @@
 -- A command adds nothing to a finaliser queue.
 use Rattle.nmgc_barrier_checker.proofs.Vocabulary.{◌≡◌, ◌≢◌, ◌<◌, ℕ, List, [], ◌∷◌, drop, length, refl, sym, ap, subst, ◌∙◌, Option, Some, None, inl, inr, Contains, cases_eq, eqb_tells, slice_get, SHARED_MAKER, Name, Value, Node, MutatorState, Change, Command, Reply, World, IsWorld, CanApply, state_of, node_of, changed, step, contains_tail}
-use Rattle.nmgc_world_spec.specs.{Step.with_state, Pieces.with_nth, Step.with_node, Pieces.with_new, Pieces.holding, Pieces.holding_given, Pieces.with_finaliser, Step.keeping, Pieces.change_node, Step.change_object, Step.change_into, Step.value_for}
+use Rattle.nmgc_world_spec.specs.{World.with_state, World.with_node, World.keeping, World.change_object, World.change_into, World.value_for, Pieces.with_nth, Pieces.with_new, Pieces.holding, Pieces.holding_given, Pieces.with_finaliser, Pieces.change_node}
 use Rattle.nmgc_world_spec.specs.declared.value.Value.TheVariants as value
 use Rattle.nmgc_world_spec.specs.declared.command.Command.TheVariants as command
 use Rattle.nmgc_world_spec.specs.declared.command.Reply.TheVariants as reply

@@ -1,6 +1,6 @@
 -- The invariant of a cycle, and the results of its calls.
 use Rattle.std.specs.Prelude.{◌≡◌, ◌≢◌, ℕ, List, [], ◌∷◌, ◌++◌, length, flat_map, Option, Some, None, Bool, true, false, not, ◌&&◌, IsSome, Contains, ◌<◌, ◌⊎◌, ◌↔◌}
-use Rattle.nmgc_world_spec.specs.{declared.value.Name.Name, declared.node.Parts.Parts, declared.command.Command.Command, declared.command.Reply.Reply, World.World, World.node_of, Known.IsWorld, Change.is_same_name, Known.CanApply, Step.step, Step.shared_name, Reach.IsAlive, Owed.names_among}
+use Rattle.nmgc_world_spec.specs.{declared.value.Name.Name, declared.node.Parts.Parts, declared.command.Command.Command, declared.command.Reply.Reply, World.World, World.node_of, World.is_same_name, World.step, World.shared_name, Known.IsWorld, Known.CanApply, Reach.IsAlive, Reach.names_among}
 use Rattle.nmgc_graph.specs.{Marks.mark_of, Search.parts_of}
 use Rattle.nmgc_barrier_laws.specs.{declared.debt.Debt.Debt, Cycle.Cycle, Cycle.IsPushed, Cycle.IsTook, Cycle.IsAllTaken, Cycle.AreKeysLeft, Hybrid.Hybrid, Hybrid.is_scanned, Hybrid.IsWatchedIn, Hybrid.IsScanned, Hybrid.held_names}
 use Rattle.nmgc_barrier_checker.specs.{declared.accounts.Accounts.Accounts, declared.name_set.NameSet.NameSet, declared.event.Why.Why, Accounts.AreAccounts, Accounts.IsLeastIn, NameSet.IsListed, Rows.is_done}

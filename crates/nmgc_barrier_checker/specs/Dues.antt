@@ -1,7 +1,7 @@
 -- How a command's due names are found: by fields that snapshot and world share at positions that the command may change. For
 -- a mutator that isn't scanned, also by the field that the command may write and the object that it may make.
 use Rattle.std.specs.Prelude.{◌≡◌, ◌+◌, ◌-◌, ◌<◌, ◌≤◌, ℕ, List, [], ◌∷◌, length, map, flat_map, Option, Some, None, Bool, true, false, Contains, ◌++◌, filter, option_to_list, if◌then◌else◌}
-use Rattle.nmgc_world_spec.specs.{declared.value.Name.Name, declared.value.Value.Value, declared.node.Parts.Parts, declared.node.Node.Node, declared.node.Node.TheVariants.Thunk, declared.node.Node.TheVariants.Weak, declared.node.Node.TheVariants.Stack, declared.change.Change.Change, declared.command.Command.Command, World.World, World.node_of, World.parts_held, Change.is_same_name, Reach.strong_fields, Owed.names_among, Written.asked}
+use Rattle.nmgc_world_spec.specs.{declared.value.Name.Name, declared.value.Value.Value, declared.node.Parts.Parts, declared.node.Node.Node, declared.node.Node.TheVariants.Thunk, declared.node.Node.TheVariants.Weak, declared.node.Node.TheVariants.Stack, declared.change.Change.Change, declared.command.Command.Command, World.World, World.node_of, World.parts_held, World.is_same_name, Reach.strong_fields, Reach.names_among, Written.asked}
 use Rattle.nmgc_world_spec.specs.declared.value.Value.TheVariants as value
 use Rattle.nmgc_world_spec.specs.declared.change.Change.TheVariants as change
 use Rattle.nmgc_graph.specs.Search.{parts_of}

@@ -8,7 +8,7 @@
 //!
 //! Easy to get wrong: a name outside the snapshot has no position in a set. It can't be due; a push of it changes nothing.
 ghost use Rattle.std.specs.Prelude.{◌≡◌, ◌↔◌, ◌<◌, ◌++◌, false, length, slice_index_or, IfOk, OnOk, IsSome, IsTrue};
-ghost use Rattle.nmgc_world_spec.specs.{World.node_of, World.state_of, Step.next_name};
+ghost use Rattle.nmgc_world_spec.specs.World.{node_of, state_of, next_name};
 ghost use Rattle.nmgc_barrier_checker.specs.{Dues.targets, Dues.handed_in, Cycles.IsUntakenIn, Cycles.is_untaken};
 
 use crate::accounts::Accounts;

@@ -11,7 +11,7 @@
 //! Easy to get wrong: a field of the snapshot that was broken is whole again only if its target is written back to the same
 //! position of the same object. Another field with the same target is no field of the snapshot.
 ghost use Rattle.std.specs.Prelude.{◌≡◌, ◌<◌, ◌≤◌, ◌++◌, true, false, length, filter, not, option_to_list, Some, IfOk, OnOk, Contains};
-ghost use Rattle.nmgc_world_spec.specs.{World.node_of, Owed.names_among, Known.HasRegisters};
+ghost use Rattle.nmgc_world_spec.specs.{World.node_of, Reach.names_among, Known.HasRegisters};
 ghost use Rattle.nmgc_world_laws.specs.{Holds.strong_at, Stored.place_written, Stored.value_written};
 ghost use Rattle.nmgc_snapshot_laws.specs.Machine.{is_pushed_in};
 ghost use Rattle.nmgc_barrier_checker.specs.{declared.due.Field.Field as FieldAt, Dues.strong_in, Dues.is_ref_to, Dues.stands_in, Dues.first_place, Dues.end_place, Dues.IsStanding, Dues.IsComing, Dues.came_in, Dues.kept_then, Dues.stored_values, Dues.values_in};

@@ -2,7 +2,7 @@
 -- name that is due and wasn't remembered, with the line since which it is due. A name made since the snapshot isn't in the
 -- snapshot: it is never due, and a push of it counts for nothing.
 use Rattle.std.specs.Prelude.{◌≡◌, ◌≢◌, ◌↔◌, ◌⊎◌, ℕ, List, [], ◌++◌, IsSome, Contains}
-use Rattle.nmgc_world_spec.specs.{declared.value.Name.Name, declared.node.Parts.Parts, declared.command.Command.Command, declared.command.Reply.Reply, World.World, World.node_of, Known.CanApply, Step.step, Step.shared_name, History.opened_by, History.finalised_by, Reach.IsAlive, Reach.IsDead, Reach.IsKept, Reach.Lists, Reach.closed}
+use Rattle.nmgc_world_spec.specs.{declared.value.Name.Name, declared.node.Parts.Parts, declared.command.Command.Command, declared.command.Reply.Reply, World.World, World.node_of, World.step, World.shared_name, Known.CanApply, Reach.opened_by, Reach.finalised_by, Reach.IsAlive, Reach.IsDead, Reach.IsKept, Reach.Lists, Reach.closed}
 use Rattle.nmgc_world_spec.specs.declared.value.Value.TheVariants as value
 use Rattle.nmgc_barrier_laws.specs.{declared.debt.Debt.Debt, Due.IsDue}
 

@@ -1,6 +1,6 @@
 -- The names that a command must at least remember. They depend on the snapshot, the world and the command, not on marks.
 use Rattle.std.specs.Prelude.{◌≢◌, ◌⊎◌, ℕ, IsSome, Contains}
-use Rattle.nmgc_world_spec.specs.{declared.value.Name.Name, declared.node.Parts.Parts, declared.command.Command.Command, World.World, World.node_of, Step.shared_name, Step.step, Reach.IsAlive, Reach.IsKeptBy, History.opened_by, History.finalised_by}
+use Rattle.nmgc_world_spec.specs.{declared.value.Name.Name, declared.node.Parts.Parts, declared.command.Command.Command, World.World, World.node_of, World.shared_name, World.step, Reach.IsAlive, Reach.IsKeptBy, Reach.opened_by, Reach.finalised_by}
 use Rattle.nmgc_world_spec.specs.declared.value.Value.TheVariants as value
 use Rattle.nmgc_world_laws.specs.Holds.{HasStrongField}
 

@@ -4,7 +4,7 @@
 -- cycle.
 use Rattle.std.specs.Prelude.{◌≡◌, ◌≢◌, ◌<◌, ◌↔◌, ◌⊎◌, ℕ, suc, List, [], ◌∷◌, ◌++◌, map, length, replicate, slice_set, slice_index_or, Bool, true, false, IsSome, Contains}
 use Rattle.std.specs.List.{flat_map}
-use Rattle.nmgc_world_spec.specs.{declared.value.Name.Name, declared.value.Value.Value, declared.mutator_state.MutatorState.MutatorState, declared.command.Command.Command, declared.command.Reply.Reply, World.World, World.state_of, World.node_of, Known.IsWorld, Known.CanApply, Step.step, Step.shared_name, Reach.IsLive, Reach.IsKept, History.opened_by, History.finalised_by, History.name_in}
+use Rattle.nmgc_world_spec.specs.{declared.value.Name.Name, declared.value.Value.Value, declared.mutator_state.MutatorState.MutatorState, declared.command.Command.Command, declared.command.Reply.Reply, World.World, World.state_of, World.node_of, World.step, World.shared_name, Known.IsWorld, Known.CanApply, Reach.IsLive, Reach.IsKept, Reach.opened_by, Reach.finalised_by, Reach.name_in}
 use Rattle.nmgc_world_spec.specs.declared.value.Value.TheVariants as value
 use Rattle.nmgc_snapshot_laws.specs.{State.State, State.names_of, State.mark_name, State.opening, Machine.after_command, Machine.after_scan, Facts.MayHold}
 use Rattle.nmgc_barrier_laws.specs.{declared.debt.Debt.Debt, Due.IsDue, Stored.IsStored, Barrier.names_in, Barrier.after_pushing, Barrier.IsSorted, Barrier.HasFinished, Barrier.EndsExactly}

@@ -1,7 +1,7 @@
 -- The lax rule gives marker and barrier more freedom than the marking machine has. A command owes at least the names that are
 -- due and at most names that may be held. Any mutator may hand over waiting names, and others that may be held, in any order.
 use Rattle.std.specs.Prelude.{◌≡◌, ◌≢◌, ◌<◌, ◌↔◌, ◌⊎◌, ℕ, List, [], ◌∷◌, ◌++◌, length, slice_set, IsSome, All, Contains, false, true}
-use Rattle.nmgc_world_spec.specs.{declared.value.Name.Name, declared.command.Command.Command, declared.command.Reply.Reply, World.World, World.node_of, Known.IsWorld, Known.CanApply, Step.step, History.Row, History.IsLegal, History.replayed, History.opened, History.finalised, Reach.IsLive}
+use Rattle.nmgc_world_spec.specs.{declared.value.Name.Name, declared.command.Command.Command, declared.command.Reply.Reply, World.World, World.node_of, World.step, Known.IsWorld, Known.CanApply, Reach.Row, Reach.IsLegal, Reach.replayed, Reach.opened, Reach.finalised, Reach.IsLive}
 use Rattle.nmgc_snapshot_laws.specs.{declared.event.Entry.Entry, declared.event.Event.Event, State.State, State.names_of, State.mark_name, State.opening, Machine.IsPossible, Machine.Passes, Machine.after_command, Machine.after_scan, Closing.IsClosing, Facts.MayHold, Facts.IsSafe, Facts.Facts, Run.IsExactClosing}
 use Rattle.nmgc_snapshot_laws.specs.declared.event.Event.TheVariants as event
 use Rattle.nmgc_barrier_laws.specs.Due.{IsDue}

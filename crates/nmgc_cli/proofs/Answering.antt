@@ -2,7 +2,7 @@
 use Rattle.nmgc_cli.proofs.Vocabulary.{◌≡◌, ◌≢◌, ◌≤◌, ◌<◌, ℕ, ◌+◌, List, ◌++◌, length, refl, sym, ◌∙◌, ap, subst, arith, Option, Some, None, Ok, Err, inl, inr, ◌⊎◌, append-nil, IfSome, Appends, Report, End, bench_script, upgraded, Spells, plain, Script, Name, MAX_IMAGE_BYTES, Retained, IsRight, retained_text, report_text, summary_text, Answer, refusal_status, answer_status, answer_report, answer_text, text_bytes, IsOutputOf, IsRan, status_of, AnswersBench, IsRead, IsReadWithin, SpellsOnly, IsUpgraded, Answers, AnswersScript, AnswersRetain, IsOutputOfReport, AnswersWithReport, IsText, IsSummary, IsImageText, IsAnswer, IsWritten, Ends, ReadsNothing, IsReading, IsReport, IsReportOfTask, IsRunThrough, IsComplete, IsBenchComplete, IsUpgrade, IsUpgradeComplete, IsPath, IsRetainComplete, IsMarksText, IsRunOf, IsHeapFull, Asks, CanBeDone, IsRunning, Refusal, Output, Status, Done, WriteFault, HeapFull, NoMemory, Task, Run, Bench, Upgrade, Image, Retain, Marks, most_script_bytes, taken_within, Result, ReadEnd, ScriptFault, IsFaultOf, Takes, TakesUpTo, AnswersBytes, read_refusal, script_refusal, most_bytes, lines_few, kept_lines}
 use Rattle.nmgc_journal.specs.declared.report.End.TheVariants as end
 use Rattle.nmgc_image.specs.declared.image.Image as shown
-use Rattle.nmgc_image.specs.Spelling as spelling
+use Rattle.nmgc_image.specs.Image as spelling
 use Rattle.nmgc_cli.specs.declared.answer.Refusal.TheVariants as no
 use Rattle.nmgc_io.specs.declared.ends.ReadEnd.TheVariants as read_end
 use Rattle.nmgc_script.specs.declared.fault.ScriptFault.TheVariants as fault_of
@@ -142,7 +142,7 @@ reports arguments left left' taken taken' read_fault write_fault answer status f
     IfSome f (λ report. IsReportOfTask arguments left left' taken taken' write_fault status report)) (sym ended.report_of)
     (of_answer arguments left left' taken taken' read_fault write_fault answer status reported ended.written)
 
--- so is the report of a run or a bench, and that of another task is asked for
+-- so is the report of a run or a bench; the arguments ask for the task of any other report
 pub told : (arguments : List (List ℕ)) (left left' taken taken' : Option (List ℕ)) (rose : Type 0) (status : Status) (found : Option Report) →
     IfSome found (λ report. IsReportOfTask arguments left left' taken taken' rose status report) →
     IfSome found (λ report. IsReport arguments left left' taken taken' rose status report)

@@ -1,7 +1,7 @@
 -- The claims of several markers in the world that a run leaves.
 use Rattle.std.specs.Prelude.{ℕ, List}
 use Rattle.nmgc_world_spec.specs.{declared.value.Name.Name, World.World}
-use Rattle.nmgc_script.specs.{declared.script.Script.Script, Limits.IsInLimits}
+use Rattle.nmgc_script.specs.{declared.script.Script.Script, Spelling.IsInLimits}
 use Rattle.nmgc_journal.specs.declared.report.Report.{Report}
 use Rattle.nmgc_run_spec.specs.{Lawful.IsLawful, Run.last_state}
 use Rattle.nmgc_pmark.specs.{Strong.roots_of, Claims.AreClaims}

@@ -1,21 +1,21 @@
--- What follows from each answer that was written (`IsAnswer`, `Ends`), told for each task. `laws` has the law.
+-- The consequences of each answer that was written (`IsAnswer`, `Ends`), for each task. `laws` has the law.
 use Rattle.std.specs.Prelude.{◌≡◌, ◌≢◌, ◌⊎◌, ◌≤◌, ℕ, List, length, Option, Some, None}
 use Rattle.std.specs.Io.KnownBytes.{Appends}
-use Rattle.nmgc_io.specs.Counts.{Rose}
+use Rattle.nmgc_io.specs.Text.{Rose}
 use Rattle.nmgc_limits.specs.Limits.{most_script_bytes}
 use Rattle.nmgc_arguments.specs.Output.{IsWritten}
 use Rattle.nmgc_world_spec.specs.declared.value.Name.{Name}
-use Rattle.nmgc_script.specs.{Limits.upgraded, Limits.most_bytes, Spelling.Spells, Parts.plain, declared.script.Script.Script, Bench.bench_script}
+use Rattle.nmgc_script.specs.{Spelling.upgraded, Spelling.most_bytes, Spelling.Spells, Spelling.bench_script, Parts.plain, declared.script.Script.Script}
 use Rattle.nmgc_journal.specs.declared.report.Report.{Report}
 use Rattle.nmgc_image.specs.declared.image.Image as shown
-use Rattle.nmgc_image.specs.{declared.read.TheConstants.MAX_IMAGE_BYTES, Shows.Shows}
-use Rattle.nmgc_image.specs.Spelling as spelling
-use Rattle.nmgc_retain.specs.{declared.path.Retained.Retained, Right.IsRight, Text.retained_text}
-use Rattle.nmgc_run_spec.specs.{Run.last_state, Crowded.IsRunOf, Crowded.IsHeapFull, Crowded.IsFullRun}
-use Rattle.nmgc_cli.specs.{Answer.Answer, Answer.status_of, Marks.IsMarksOf, Task.Asks, Output.IsAnswer, Output.Ends, Output.IsReadWithin, Output.SpellsOnly, Output.IsReportOfRun, Output.IsReportOfBench, declared.status.Status.Status, declared.status.Status.TheVariants.Done, declared.status.Status.TheVariants.WriteFault, declared.status.Status.TheVariants.HeapFull, declared.status.Status.TheVariants.NoMemory, declared.task.Task.Task, declared.task.Task.TheVariants.Run, declared.task.Task.TheVariants.Bench, declared.task.Task.TheVariants.Upgrade, declared.task.Task.TheVariants.Image, declared.task.Task.TheVariants.Retain, declared.task.Task.TheVariants.Marks}
+use Rattle.nmgc_image.specs.{declared.read.TheConstants.MAX_IMAGE_BYTES, Image.Shows}
+use Rattle.nmgc_image.specs.Image as spelling
+use Rattle.nmgc_retain.specs.{declared.path.Retained.Retained, Paths.IsRight, Paths.retained_text}
+use Rattle.nmgc_run_spec.specs.{Run.last_state, Lawful.IsRunOf, Lawful.IsHeapFull, Lawful.IsFullRun}
+use Rattle.nmgc_cli.specs.{Output.Answer, Output.status_of, Output.IsMarksOf, Output.Asks, Output.IsAnswer, Output.Ends, Output.IsReadWithin, Output.SpellsOnly, Output.IsReportOfRun, Output.IsReportOfBench, declared.status.Status.Status, declared.status.Status.TheVariants.Done, declared.status.Status.TheVariants.WriteFault, declared.status.Status.TheVariants.HeapFull, declared.status.Status.TheVariants.NoMemory, declared.task.Task.Task, declared.task.Task.TheVariants.Run, declared.task.Task.TheVariants.Bench, declared.task.Task.TheVariants.Upgrade, declared.task.Task.TheVariants.Image, declared.task.Task.TheVariants.Retain, declared.task.Task.TheVariants.Marks}
 
--- a property holds after each answer that was written. It is of the arguments, the bytes left in the source and taken by the
--- sink before and after, the claims that their counts of faults rose, and the resulting status and report
+-- a property follows from each answer that was written. It is about the arguments, the bytes left in the source, the bytes
+-- that the sink took, faults of either, and the resulting status and report
 abbrev pub Follows : (List (List ℕ) → Option (List ℕ) → Option (List ℕ) → Option (List ℕ) → Option (List ℕ) → Type 0 → Type 0 → Status →
     Option Report → Type 0) → Type 0
 Follows P = (arguments : List (List ℕ)) (left left' taken taken' : Option (List ℕ)) (read read' written written' : ℕ) (answer : Answer) (status : Status)

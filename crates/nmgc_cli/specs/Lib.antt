@@ -1,10 +1,6 @@
-pub mod Answer
 pub mod Bench
 pub mod Claimed
 pub mod Consequences
-pub mod Marks
 pub mod Output
 pub mod Parts
-pub mod Program
-pub mod Task
 pub mod laws

@@ -1,21 +1,126 @@
--- The program's answer to its arguments and to the bytes that it reads, and the part of the answer that is written.
-use Rattle.std.specs.Prelude.{◌≡◌, ◌⊎◌, ◌≤◌, ◌<◌, ◌+◌, ℕ, List, length, Option, Some, None, Result, Ok, Err}
-use Rattle.std.specs.Io.KnownBytes.{Consumes, Keeps, IsAtEnd}
-use Rattle.nmgc_io.specs.Counts.{Takes, TakesUpTo}
-use Rattle.nmgc_io.specs.Text.{ended, lines_of}
-use Rattle.nmgc_arguments.specs.Output.{text_bytes, IsWritten}
-use Rattle.nmgc_script.specs.{Limits.upgraded, Limits.IsInLimits, Limits.most_bytes, Spelling.Spells, Spelling.script_lines, Faults.IsFaultOfText, Text.kept_lines, declared.script.Script.Script, declared.fault.Cause.Cause, Bench.bench_script}
-use Rattle.nmgc_journal.specs.{declared.report.Report.Report, Text.report_text, Summary.summary_text}
-use Rattle.nmgc_world_spec.specs.declared.value.Name.{Name}
-use Rattle.nmgc_image.specs.declared.image.Image as shown
-use Rattle.nmgc_image.specs.{declared.read.TheConstants.MAX_IMAGE_BYTES, Faults.IsFirstBad, Shows.Shows}
-use Rattle.nmgc_image.specs.Spelling as spelling
-use Rattle.nmgc_retain.specs.{declared.path.Retained.Retained, Right.IsRight, Text.retained_text}
-use Rattle.nmgc_run_spec.specs.{Lawful.IsLawful, Run.last_state, Crowded.IsRunOf}
-use Rattle.nmgc_cli.specs.{declared.output.Output.Output, Marks.IsMarksText, Task.Asks, Task.IsWrong, declared.answer.Refusal.Refusal, declared.status.Status.Status, declared.status.Status.TheVariants.Done, declared.status.Status.TheVariants.WriteFault, declared.task.Task.Task, declared.task.Task.TheVariants.Run, declared.task.Task.TheVariants.Bench, declared.task.Task.TheVariants.Upgrade, declared.task.Task.TheVariants.Image, declared.task.Task.TheVariants.Retain, declared.task.Task.TheVariants.Marks}
-use Rattle.nmgc_cli.specs.Answer.{Answer, answer_status, answer_report, answer_text, IsRan, status_of}
-use Rattle.nmgc_cli.specs.declared.answer.Refusal.TheVariants as no
+-- The program: its tasks, its answers with their status and text, and the output.
+use Rattle.std.specs.Io.KnownBytes.{Consumes, IsAtEnd, Keeps}
+use Rattle.std.specs.List.{flat_map}
+use Rattle.std.specs.Prelude.{Err, List, None, Ok, Option, Result, Some, [], codes, decimal, length, ℕ, ◌++◌, ◌+◌, ◌<◌, ◌∷◌, ◌≡◌, ◌≢◌, ◌≤◌, ◌⊎◌}
 use Rattle.nmgc_limits.specs.Limits.{most_script_bytes}
+use Rattle.nmgc_world_spec.specs.{Reach.IsReached, Reach.IsRoot, Reach.Lists, World.shared_name, declared.value.Name.Name}
+use Rattle.nmgc_io.specs.Text.{Takes, TakesUpTo, ended, lines_of}
+use Rattle.nmgc_script.specs.Spelling.{IsFaultOfText, IsInLimits, Spells, bench_script, kept_lines, most_bytes, script_lines, upgraded}
+use Rattle.nmgc_script.specs.{declared.bench.TheConstants.MAX_BATCHES, declared.fault.Cause.Cause, declared.script.Script.Script}
+use Rattle.nmgc_script.specs.declared.fault.Cause.TheVariants as cause
+use Rattle.nmgc_arguments.specs.Output.{ArePassed, IsWritten, text_bytes}
+use Rattle.nmgc_object.specs.Words.{IsName}
+use Rattle.nmgc_journal.specs.Text.{count_line, end_text, name_line, name_text, report_text, summary_text}
+use Rattle.nmgc_journal.specs.{declared.report.End.End, declared.report.Report.Report}
+use Rattle.nmgc_journal.specs.declared.report.End.TheVariants as end
+use Rattle.nmgc_image.specs.{Image.IsFirstBad, Image.Shows, declared.read.TheConstants.MAX_IMAGE_BYTES}
+use Rattle.nmgc_image.specs.Image as spelling
+use Rattle.nmgc_image.specs.declared.image.Image as shown
+use Rattle.nmgc_retain.specs.{Paths.IsRight, Paths.retained_text, declared.path.Retained.Retained}
+use Rattle.nmgc_run_spec.specs.{Lawful.IsLawful, Lawful.IsRunOf, Run.last_state}
+use Rattle.nmgc_pmark.specs.declared.crew.TheConstants.{MOST_MARKERS}
+use Rattle.nmgc_cli.specs.declared.status.Status.TheVariants.{BadImage, BadScript, Done, HeapFull, NoMemory, ReadFault, TooLong, Usage, WriteFault}
+use Rattle.nmgc_cli.specs.declared.task.Task.TheVariants.{Bench, Image, Marks, Retain, Run, Upgrade}
+use Rattle.nmgc_cli.specs.{declared.answer.Refusal.Refusal, declared.output.Output.Output, declared.status.Status.Status, declared.task.Task.Task}
+use Rattle.nmgc_cli.specs.declared.answer.Refusal.TheVariants as no
+
+-- the arguments ask for this task
+abbrev pub Asks : List (List ℕ) → Task → Type 0
+Asks arguments Run = arguments ≡ codes "run" ∷ []
+Asks arguments (Bench batches) = (arguments ≡ codes "bench" ∷ decimal batches ∷ []) × ((1 ≤ batches) × (batches ≤ MAX_BATCHES))
+Asks arguments Upgrade = arguments ≡ codes "upgrade" ∷ []
+Asks arguments Image = arguments ≡ codes "image" ∷ []
+Asks arguments (Retain name) = (arguments ≡ codes "retain" ∷ name_text name ∷ []) × IsName name
+Asks arguments (Marks markers) = (arguments ≡ codes "marks" ∷ decimal markers ∷ []) × ((1 ≤ markers) × (markers ≤ MOST_MARKERS))
+
+-- wrong arguments: they ask for no task
+abbrev pub IsWrong : List (List ℕ) → Type 0
+IsWrong arguments = (task : Task) → Asks arguments task → ⊥
+
+-- an answer: the output of a task that was done (a status, the report if a script was run, and a text), or the refusal
+abbrev pub Answer : Type 0
+Answer = Result Output Refusal
+
+-- the status of a refusal
+abbrev pub refusal_status : Refusal → Status
+refusal_status no.Usage = Usage
+refusal_status no.ReadFault = ReadFault
+refusal_status no.TooLong = TooLong
+refusal_status (no.Bad line c) = BadScript
+refusal_status (no.BadImage line) = BadImage
+refusal_status no.NoMemory = NoMemory
+
+-- the token of a cause
+abbrev pub cause_text : Cause → List ℕ
+cause_text cause.Version = codes "version"
+cause_text cause.Heap = codes "heap"
+cause_text cause.Thread = codes "thread"
+cause_text cause.Total = codes "total"
+cause_text cause.Command = codes "command"
+cause_text cause.Arity = codes "arity"
+cause_text cause.Operand = codes "operand"
+cause_text cause.Size = codes "size"
+
+-- the text of a refusal
+abbrev pub refusal_text : Refusal → List ℕ
+refusal_text no.Usage = codes "usage: nmgc run | nmgc bench N | nmgc upgrade | nmgc image | nmgc retain NAME | nmgc marks N\n"
+refusal_text no.ReadFault = codes "read fault\n"
+refusal_text no.TooLong = codes "too long\n"
+refusal_text (no.Bad line c) = codes "bad line " ++ decimal line ++ 32 ∷ cause_text c ++ 10 ∷ []
+refusal_text (no.BadImage line) = count_line (codes "bad image line ") line
+refusal_text no.NoMemory = codes "no memory\n"
+
+-- the status of an answer
+abbrev pub answer_status : Answer → Status
+answer_status (Ok output) = output.status
+answer_status (Err refusal) = refusal_status refusal
+
+-- the report of an answer, if a script was run
+abbrev pub answer_report : Answer → Option Report
+answer_report (Ok output) = output.report
+answer_report (Err refusal) = None
+
+-- the text of an answer
+abbrev pub answer_text : Answer → List ℕ
+answer_text (Ok output) = text_bytes output.text
+answer_text (Err refusal) = refusal_text refusal
+
+-- the script was run: it is within the limits, and the report is a report of a run of it
+pub record IsRan (script : Script) (report : Report) : Type 0 where
+  pub limits : IsInLimits script
+  pub run : IsRunOf script report
+
+-- the exit number of each status, with which the process ends
+abbrev pub number_of : Status → ℕ
+number_of Done = 0
+number_of Usage = 2
+number_of ReadFault = 3
+number_of WriteFault = 4
+number_of BadScript = 5
+number_of TooLong = 5
+number_of HeapFull = 6
+number_of NoMemory = 7
+number_of BadImage = 9
+
+-- the status of a run with this end
+abbrev pub status_of : End → Status
+status_of end.Done = Done
+status_of (end.HeapFull free reserve) = HeapFull
+
+-- the lines of marked names: the number of markers, the number of names reached, each of the names, and the end of the run
+abbrev pub marks_lines : ℕ → List Name → End → List ℕ
+marks_lines markers names end = count_line (codes "marks ") markers ++ count_line (codes "reached ") (length names) ++ flat_map (name_line []) names ++ end_text end
+
+-- the text has the lines of these names, in order. They are all names except g that strong fields reach in the last world, from
+-- its registers and queues and from the slots of g
+pub record IsMarksOf (markers : ℕ) (script : Script) (report : Report) (lawful : IsLawful script report) (text : List ℕ) : Type 0 where
+  pub names : List Name
+  pub reached : Lists (λ name. IsReached (last_state lawful.run).world (IsRoot (last_state lawful.run).world) name × (name ≢ shared_name)) names
+  pub text_is : text ≡ marks_lines markers names report.end
+
+-- the text of `marks N`: the last world's marked names, for each script within the limits that makes the report lawful
+abbrev pub IsMarksText : ℕ → Report → List ℕ → Type 0
+IsMarksText markers report text = (script : Script) → IsInLimits script → (lawful : IsLawful script report) → IsMarksOf markers script report lawful text
 
 -- all bytes left in a source were read, and they are at most `limit` bytes
 pub record IsReadWithin (limit : ℕ) (old new : Option (List ℕ)) (bytes : List ℕ) : Type 0 where
@@ -59,7 +164,7 @@ AnswersBytes Gives bytes (Err no.TooLong) = most_bytes bytes < length bytes
 AnswersBytes Gives bytes (Err no.NoMemory) = Unit {0}
 AnswersBytes Gives bytes (Err _) = ⊥
 
--- the answer of a task that reads at most `limit` bytes, and answers them by `OfBytes`. `rose`: the source's count of faults rose
+-- the answer of a task whose source may have `limit` bytes, answered by `OfBytes`. `rose`: the source's count of faults rose
 abbrev pub AnswersRead : {X : Type 0} → ℕ → (List ℕ → Result X Refusal → Type 0) → Option (List ℕ) → Option (List ℕ) → Type 0 → Result X Refusal → Type 0
 AnswersRead limit OfBytes old new rose (Err no.ReadFault) = TakesUpTo old new limit × rose
 AnswersRead limit OfBytes old new rose (Err no.NoMemory) = TakesUpTo old new limit
@@ -127,7 +232,7 @@ pub record Ends (old new : Option (List ℕ)) (rose : Type 0) (answer : Answer) 
   pub report_of : report ≡ answer_report answer
   pub written : IsWritten WriteFault old new rose (answer_status answer) (answer_text answer) status
 
--- a report of `run`: the bytes left were read and spell one script; the report is lawful for it, and its text was written
+-- a report of `run`: the bytes left were read and spell one script; the report is lawful for this script, and the report's text was written
 pub record IsReportOfRun (arguments : List (List ℕ)) (left left' taken taken' : Option (List ℕ)) (rose : Type 0) (status : Status) (report : Report) : Type 0 where
   pub asked : Asks arguments Run
   pub bytes : List ℕ
@@ -137,7 +242,7 @@ pub record IsReportOfRun (arguments : List (List ℕ)) (left left' taken taken' 
   pub lawful : IsLawful script report
   pub written : IsWritten WriteFault taken taken' rose (status_of report.end) (report_text report) status
 
--- a report of `bench N`: nothing was read, the report is lawful for the bench's script, and its summary was written
+-- a report of `bench N`: nothing was read, the report is lawful for the bench's script, and the report's summary was written
 pub record IsReportOfBench (arguments : List (List ℕ)) (left left' taken taken' : Option (List ℕ)) (rose : Type 0) (status : Status) (report : Report) :
     Type 0 where
   pub batches : ℕ
@@ -146,7 +251,8 @@ pub record IsReportOfBench (arguments : List (List ℕ)) (left left' taken taken
   pub lawful : IsLawful (bench_script batches) report
   pub written : IsWritten WriteFault taken taken' rose (status_of report.end) (summary_text batches report) status
 
--- a report of `run` or `bench N`, or one of `image` or `marks N`, for which the answer (`IsAnswer`) says the same
+-- a report of `run` or `bench N`. For `image` or `marks N` it says only that the arguments ask for it: `IsAnswer` and `Ends` have
+-- the rest
 abbrev pub IsReport : List (List ℕ) → Option (List ℕ) → Option (List ℕ) → Option (List ℕ) → Option (List ℕ) → Type 0 → Status → Report → Type 0
 IsReport arguments left left' taken taken' rose status report = IsReportOfRun arguments left left' taken taken' rose status report ⊎
     (IsReportOfBench arguments left left' taken taken' rose status report ⊎ (Asks arguments Image ⊎ ((markers : ℕ) × Asks arguments (Marks markers))))
@@ -154,3 +260,17 @@ IsReport arguments left left' taken taken' rose status report = IsReportOfRun ar
 -- the arguments ask for no task that reads: they are wrong, or ask for a bench
 abbrev pub ReadsNothing : List (List ℕ) → Type 0
 ReadsNothing arguments = IsWrong arguments ⊎ ((batches : ℕ) × Asks arguments (Bench batches))
+
+-- a run of the whole program. The command line's arguments were passed on, there is an answer to them, the answer was
+-- written, and the number is the number of the status. If the arguments ask for no task that reads, the source is as before.
+pub record Ran (line : Option (List (List ℕ))) (left left' : Option (List ℕ)) (read_fault as_it_was : Type 0) (taken taken' : Option (List ℕ))
+    (write_fault : Type 0) (number : ℕ) : Type 0 where
+  pub arguments : List (List ℕ)
+  pub answer : Answer
+  pub status : Status
+  pub report : Option Report
+  pub passed : ArePassed line arguments
+  pub reported : IsAnswer arguments left left' read_fault answer
+  pub unread : ReadsNothing arguments → as_it_was
+  pub ended : Ends taken taken' write_fault answer status report
+  pub exit : number ≡ number_of status

@@ -1,6 +1,6 @@
 -- The terms of the contracts below the top call, and of the laws: refusals of a reader, tasks that can be done, parts of answers.
 use Rattle.std.specs.Prelude.{◌≡◌, ◌≤◌, ◌++◌, ℕ, List, [], ◌∷◌, codes, decimal, Option}
-use Rattle.nmgc_script.specs.{Parts.most_batches, declared.fault.Cause.Cause, declared.fault.ScriptFault.ScriptFault, declared.script.Script.Script, Limits.IsInLimits}
+use Rattle.nmgc_script.specs.{Parts.most_batches, declared.fault.Cause.Cause, declared.fault.ScriptFault.ScriptFault, declared.script.Script.Script, Spelling.IsInLimits}
 use Rattle.nmgc_io.specs.declared.ends.ReadEnd.{ReadEnd}
 use Rattle.nmgc_journal.specs.declared.report.Report.{Report}
 use Rattle.nmgc_image.specs.declared.fault.ImageFault.{ImageFault}
@@ -8,10 +8,10 @@ use Rattle.nmgc_limits.specs.Limits.{most_script_bytes}
 use Rattle.nmgc_world_spec.specs.declared.value.Name.{Name}
 use Rattle.nmgc_arguments.specs.Output.{text_bytes}
 use Rattle.nmgc_arguments.specs.Output as shared
-use Rattle.nmgc_cli.specs.{declared.answer.Refusal.Refusal, declared.output.Output.Output, declared.task.Task.Task, declared.task.Task.TheVariants.Run, declared.task.Task.TheVariants.Bench, declared.task.Task.TheVariants.Upgrade, declared.task.Task.TheVariants.Image, declared.task.Task.TheVariants.Retain, declared.task.Task.TheVariants.Marks, Answer.Answer, Answer.answer_status, Answer.answer_report, Answer.answer_text, Answer.cause_text, Output.IsReadWithin, Output.AnswersRead, Output.AnswersImage, declared.status.Status.Status, declared.status.Status.TheVariants.WriteFault}
+use Rattle.nmgc_cli.specs.{declared.answer.Refusal.Refusal, declared.output.Output.Output, declared.task.Task.Task, declared.task.Task.TheVariants.Run, declared.task.Task.TheVariants.Bench, declared.task.Task.TheVariants.Upgrade, declared.task.Task.TheVariants.Image, declared.task.Task.TheVariants.Retain, declared.task.Task.TheVariants.Marks, Output.Answer, Output.answer_status, Output.answer_report, Output.answer_text, Output.cause_text, Output.IsReadWithin, Output.AnswersRead, Output.AnswersImage, declared.status.Status.Status, declared.status.Status.TheVariants.WriteFault}
 use Rattle.nmgc_image.specs.declared.read.TheConstants.{MAX_IMAGE_BYTES}
 use Rattle.nmgc_pmark.specs.declared.crew.TheConstants.{MOST_MARKERS}
-use Rattle.nmgc_run_spec.specs.Crowded.{IsRunOf}
+use Rattle.nmgc_run_spec.specs.Lawful.{IsRunOf}
 use Rattle.nmgc_io.specs.declared.ends.ReadEnd.TheVariants as read
 use Rattle.nmgc_script.specs.declared.fault.ScriptFault.TheVariants as script
 use Rattle.nmgc_image.specs.declared.fault.ImageFault.TheVariants as image
@@ -51,6 +51,14 @@ pub record IsOfScript (report : Report) : Type 0 where
   pub limits : IsInLimits script
   pub run : IsRunOf script report
 
+-- a bench may have this number of batches
+abbrev pub IsBench : ℕ → Type 0
+IsBench batches = (1 ≤ batches) × (batches ≤ most_batches)
+
+-- `marks N` may have this number of markers
+abbrev pub AreMarkers : ℕ → Type 0
+AreMarkers markers = (1 ≤ markers) × (markers ≤ MOST_MARKERS)
+
 -- the task's number, if it has one, is allowed: the batches of a bench, or the markers of `marks N`
 abbrev pub CanBeDone : Task → Type 0
 CanBeDone Run = Unit {0}
@@ -71,14 +79,6 @@ IsWritten old new rose reported text status = shared.IsWritten WriteFault old ne
 -- the answer of `retain NAME`
 abbrev pub AnswersRetain : Name → Option (List ℕ) → Option (List ℕ) → Type 0 → Answer → Type 0
 AnswersRetain name = AnswersRead MAX_IMAGE_BYTES (AnswersImage name)
-
--- a bench may have this number of batches
-abbrev pub IsBench : ℕ → Type 0
-IsBench batches = (1 ≤ batches) × (batches ≤ most_batches)
-
--- `marks N` may have this number of markers
-abbrev pub AreMarkers : ℕ → Type 0
-AreMarkers markers = (1 ≤ markers) × (markers ≤ MOST_MARKERS)
 
 -- the line that reports the first bad line of a script
 abbrev pub bad_line : ℕ → Cause → List ℕ

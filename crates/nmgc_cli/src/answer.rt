@@ -4,7 +4,7 @@
 //! always agree: no refusal is `Done`, and no report goes with a refusal. Easy to get wrong: there may be no memory for the
 //! text of a bad line. The answer is then `NoMemory`, whose own text takes none.
 ghost use Rattle.std.specs.Prelude.{◌≡◌};
-ghost use Rattle.nmgc_cli.specs.{Answer.refusal_status, Parts.read_refusal, Parts.script_refusal, Parts.image_refusal, declared.answer.Refusal.TheVariants.NoMemory as no_memory};
+ghost use Rattle.nmgc_cli.specs.{Output.refusal_status, Parts.read_refusal, Parts.script_refusal, Parts.image_refusal, declared.answer.Refusal.TheVariants.NoMemory as no_memory};
 
 use crate::Status;
 use nmgc_image::ImageFault;

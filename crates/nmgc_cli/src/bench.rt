@@ -4,9 +4,9 @@
 //! other, so all proofs about runs hold for it. The report's summary is written in place of its text. Easy to get wrong:
 //! `bench 0` and `bench 01` are wrong arguments, like `bench 101`.
 ghost use Rattle.std.specs.Prelude.{◌≡◌, ℕ, [], ◌∷◌, decimal, map, string_bytes, IfOk, IfSome, IfNone};
-ghost use Rattle.nmgc_cli.specs.{Output.AnswersBench, Output.AnswersWithReport, Output.IsSummary, Bench.HasCount, Task.Asks, Parts.IsBench, declared.task.Task.TheVariants.Bench};
-ghost use Rattle.nmgc_run_spec.specs.Crowded.{IsRunOf};
-ghost use Rattle.nmgc_script.specs.Bench.{bench_script};
+ghost use Rattle.nmgc_cli.specs.{Output.AnswersBench, Output.AnswersWithReport, Output.IsSummary, Output.Asks, Bench.HasCount, Parts.IsBench, declared.task.Task.TheVariants.Bench};
+ghost use Rattle.nmgc_run_spec.specs.Lawful.{IsRunOf};
+ghost use Rattle.nmgc_script.specs.Spelling.{bench_script};
 
 use crate::answer::Refusal;
 use crate::output::Output;

@@ -1,7 +1,7 @@
 //! The whole program except for its streams: command line in, exit number out.
 ghost use Rattle.std.specs.Prelude.{◌≡◌, ◌⊎◌};
-ghost use Rattle.nmgc_io.specs.Counts.{Rose};
-ghost use Rattle.nmgc_cli.specs.Program.{Ran};
+ghost use Rattle.nmgc_io.specs.Text.{Rose};
+ghost use Rattle.nmgc_cli.specs.Output.{Ran};
 
 use crate::{Status, nmgc};
 use nmgc_arguments::{CommandLine, arguments_of};

@@ -1,7 +1,7 @@
 //! The subcommand `image`: the heap that a run left, as an image.
 ghost use Rattle.std.specs.Prelude.{IfOk};
-ghost use Rattle.nmgc_io.specs.Counts.{Rose};
-ghost use Rattle.nmgc_cli.specs.{Answer.IsRan, Parts.IsOfScript, Output.AnswersScript, Output.AnswersWithReport, Output.IsImageText};
+ghost use Rattle.nmgc_io.specs.Text.{Rose};
+ghost use Rattle.nmgc_cli.specs.{Output.IsRan, Output.AnswersScript, Output.AnswersWithReport, Output.IsImageText, Parts.IsOfScript};
 
 use crate::answer::Refusal;
 use crate::output::Output;

@@ -2,8 +2,8 @@
 ghost use Rattle.std.specs.Prelude.{IfSome};
 ghost use Rattle.nmgc_cli.specs.Consequences.{Follows, IsReportOfTask, IsUpgrade, IsPath, IsComplete, IsBenchComplete, IsUpgradeComplete, IsRetainComplete};
 
-/// Proves, for each task, what follows from its answer and from the writing of it. So each clause here holds of every call of
-/// `nmgc` (by its clause `reported`) and of `program`.
+/// Proves the consequences of an answer that was written, for each task. So each clause here holds of every call of `nmgc`
+/// (by its clause `reported`) and of `program`.
 pub fn answers_have_consequences()
     // A report that is returned is lawful for the one script that was read to its end, or for the bench's script, and its end
     // has its cause. The text of the task for this report was written with the status of this end, or a prefix of the text.
@@ -13,8 +13,8 @@ pub fn answers_have_consequences()
     // never returns a report, and never ends as `HeapFull`.
     ensures upgrade { Follows (λ arguments left left_after taken taken_after read_fault write_fault status report.
         IsUpgrade arguments left left_after taken taken_after status report) }
-    // If `retain` ends as `Done`, an image was read to its end, and the text of an answer was written that `verify` certifies
-    // in this image, so the answer is right. It never returns a report, and never ends as `HeapFull`.
+    // If `retain` ends as `Done`, an image was read to its end, and the text of a right answer in this image was written. It
+    // never returns a report, and never ends as `HeapFull`.
     ensures path { Follows (λ arguments left left_after taken taken_after read_fault write_fault status report.
         IsPath arguments left left_after taken taken_after status report) }
     // For `run`, `image` and `marks N`: if a script within the limit is read and nothing fails, the status is `Done`,

@@ -8,7 +8,7 @@
 //! - `task`: the tasks that the arguments of the command line ask for.
 //! - `top`: the top call. `answer`, `output`, `message`: the answer, and its output.
 //! - `run`, `bench`, `upgrading`, `imaging`, `retaining`, `marks`: one subcommand each.
-//! - `laws`: what follows from an answer that was written.
+//! - `laws`: the consequences of an answer that was written.
 //! - `status`, `entry`: statuses with their numbers, and the whole program except for its streams.
 #![tactic(auto)]
 

@@ -8,8 +8,8 @@ ghost use Rattle.std.specs.Prelude.{◌≡◌, ℕ, [], ◌∷◌, ◌++◌, dec
 ghost use Rattle.std.specs.List.{flat_map};
 ghost use Rattle.nmgc_journal.specs.Text.{name_line};
 ghost use Rattle.nmgc_pmark.specs.Stops.{root_words};
-ghost use Rattle.nmgc_cli.specs.{Claimed.AreClaimsOf, Marks.IsMarksText, Marks.marks_lines, Answer.IsRan, Parts.IsOfScript, Task.Asks, Parts.AreMarkers, Output.AnswersScript, Output.AnswersWithReport, declared.task.Task.TheVariants.Marks};
-ghost use Rattle.nmgc_io.specs.Counts.{Rose};
+ghost use Rattle.nmgc_cli.specs.{Claimed.AreClaimsOf, Output.IsMarksText, Output.marks_lines, Output.IsRan, Output.Asks, Output.AnswersScript, Output.AnswersWithReport, Parts.IsOfScript, Parts.AreMarkers, declared.task.Task.TheVariants.Marks};
+ghost use Rattle.nmgc_io.specs.Text.{Rose};
 
 use crate::answer::Refusal;
 use crate::output::Output;

@@ -1,7 +1,7 @@
 //! The texts of refusals.
 ghost use Rattle.std.specs.Prelude.{◌≡◌, IfOk, codes};
-ghost use Rattle.nmgc_journal.specs.Summary.{count_line};
-ghost use Rattle.nmgc_cli.specs.{Parts.IsBad, Answer.refusal_text, Answer.cause_text, Parts.bad_line};
+ghost use Rattle.nmgc_journal.specs.Text.{count_line};
+ghost use Rattle.nmgc_cli.specs.{Parts.IsBad, Output.refusal_text, Output.cause_text, Parts.bad_line};
 
 use crate::answer::Refusal;
 use nmgc_io::push_number;

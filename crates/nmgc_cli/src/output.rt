@@ -2,7 +2,7 @@
 //!
 //! A task that was done returns its output. The text of a bad line takes memory. Without it, the answer is `NoMemory`.
 ghost use Rattle.std.specs.Prelude.{◌≡◌, ◌⊎◌, Some, Err};
-ghost use Rattle.nmgc_cli.specs.{Parts.IsBad, Parts.IsOutputOf, Answer.status_of};
+ghost use Rattle.nmgc_cli.specs.{Parts.IsBad, Parts.IsOutputOf, Output.status_of};
 
 use crate::Status;
 use crate::answer::Refusal;

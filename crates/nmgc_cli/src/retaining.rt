@@ -4,10 +4,10 @@
 //! accepts each answer of the search. The judge takes no memory, and less time than reading the image.
 ghost use Rattle.std.specs.Prelude.{◌≡◌, ◌≢◌, [], ◌∷◌, ℕ, ◌≤◌, length, map, string_bytes, codes, IfSome, IfNone};
 ghost use Rattle.nmgc_world_spec.specs.declared.value.Name.{Name as NameOf};
-ghost use Rattle.nmgc_io.specs.Counts.{Rose};
+ghost use Rattle.nmgc_io.specs.Text.{Rose};
 ghost use Rattle.nmgc_journal.specs.Text.{name_text};
 ghost use Rattle.nmgc_object.specs.Words.{IsName};
-ghost use Rattle.nmgc_cli.specs.{Task.Asks, Parts.AnswersRetain, Output.AnswersImage, declared.task.Task.TheVariants.Retain};
+ghost use Rattle.nmgc_cli.specs.{Output.Asks, Output.AnswersImage, Parts.AnswersRetain, declared.task.Task.TheVariants.Retain};
 
 use crate::Status;
 use crate::answer::Refusal;

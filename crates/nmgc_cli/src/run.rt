@@ -2,11 +2,11 @@
 //!
 //! Other subcommands that run a script begin with `read_and_run`, as `run` does, and differ only in the text for the report.
 ghost use Rattle.std.specs.Prelude.{◌≡◌, ◌≤◌, length, sum_by, vec_len, IfOk, IfErr, MatchResult};
-ghost use Rattle.nmgc_io.specs.Counts.{Rose};
+ghost use Rattle.nmgc_io.specs.Text.{Rose};
 ghost use Rattle.nmgc_limits.specs.Limits.{most_script_bytes};
-ghost use Rattle.nmgc_script.specs.{Results.IsFaultOf, Spelling.Spells, declared.script.Script.Script as Spelled, Limits.IsInLimits};
-ghost use Rattle.nmgc_run_spec.specs.Crowded.{IsRunOf};
-ghost use Rattle.nmgc_cli.specs.{Answer.IsRan, Output.AnswersScript, Output.AnswersBytes, Output.AnswersWithReport, Output.IsText};
+ghost use Rattle.nmgc_script.specs.{Results.IsFaultOf, Spelling.Spells, Spelling.IsInLimits, declared.script.Script.Script as Spelled};
+ghost use Rattle.nmgc_run_spec.specs.Lawful.{IsRunOf};
+ghost use Rattle.nmgc_cli.specs.Output.{IsRan, AnswersScript, AnswersBytes, AnswersWithReport, IsText};
 
 use crate::answer::Refusal;
 use crate::output::Output;

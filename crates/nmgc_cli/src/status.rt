@@ -1,6 +1,6 @@
 //! The statuses with which the program ends, and their numbers.
 ghost use Rattle.std.specs.Prelude.{◌≡◌};
-ghost use Rattle.nmgc_cli.specs.Answer.{number_of, status_of};
+ghost use Rattle.nmgc_cli.specs.Output.{number_of, status_of};
 
 use nmgc_journal::{End, Report};
 

@@ -1,9 +1,9 @@
 //! The tasks that the arguments of the command line ask for.
 //!
 //! A task is read from all arguments at once, so one too many is wrong, and so is one too few. A new task needs a variant
-//! here, a line in each definition by cases of tasks (`specs/Task.antt`, `Answers`), a subcommand in `Usage`, and a file.
+//! here, a line in each definition by cases of tasks (`specs/Output.antt`, `Answers`), a subcommand in `Usage`, and a file.
 ghost use Rattle.std.specs.Prelude.{◌≡◌, ◌↔◌, [], ◌∷◌, map, string_bytes, IsTrue, IfSome, IfNone};
-ghost use Rattle.nmgc_cli.specs.Task.{Asks, IsWrong};
+ghost use Rattle.nmgc_cli.specs.Output.{Asks, IsWrong};
 
 use crate::bench::batches_of;
 use crate::marks::markers_of;

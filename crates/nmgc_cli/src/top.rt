@@ -4,9 +4,9 @@
 //! and the first refusal is the answer. The output is settled before the sink is touched, so a sink that fails changes only
 //! the status. Each task is in a file of its own.
 ghost use Rattle.std.specs.Prelude.{◌≡◌, map, string_bytes, IfSome};
-ghost use Rattle.nmgc_io.specs.Counts.{Rose};
-ghost use Rattle.nmgc_cli.specs.{Answer.Answer, Parts.IsOutputOf, Parts.CanBeDone, Parts.IsReading};
-ghost use Rattle.nmgc_cli.specs.Output.{IsAnswer, Answers, Ends, IsReport, ReadsNothing};
+ghost use Rattle.nmgc_io.specs.Text.{Rose};
+ghost use Rattle.nmgc_cli.specs.Parts.{IsOutputOf, CanBeDone, IsReading};
+ghost use Rattle.nmgc_cli.specs.Output.{IsAnswer, Answers, Ends, IsReport, ReadsNothing, Answer};
 
 use crate::answer::Refusal;
 use crate::bench::bench;
@@ -58,8 +58,9 @@ pub fn nmgc<R: Threads + Sync, S: Source, K: Sink>(
         × IsAnswer (map string_bytes arguments.now) (S.left source.old) (S.left source.new) (Rose (S.faults source.old) (S.faults source.new)) answer
         × Ends (K.taken sink.old) (K.taken sink.new) (Rose (K.faults sink.old) (K.faults sink.new)) answer result.status result.report }
     // The theorem of the repository. A report of `run` or `bench N` is lawful for the one script that was read to its end, or
-    // for the bench's script, and its end has its cause. The report's text or summary was written with the status of this
-    // end; if the sink failed, a prefix of it was written. By `laws` the same holds of `image` and `marks N` with their texts.
+    // for the bench's script. The report's text or summary was written with the status of its end; if the sink failed, a prefix
+    // was written. By `reported` the report's end also has its cause, and the same holds of `image` and `marks N`, with their
+    // texts (`laws`).
     ensures report { IfSome result.report (λ report.
         IsReport (map string_bytes arguments.now) (S.left source.old) (S.left source.new) (K.taken sink.old) (K.taken sink.new)
         (Rose (K.faults sink.old) (K.faults sink.new)) result.status report) }

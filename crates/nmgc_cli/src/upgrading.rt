@@ -3,7 +3,7 @@
 //! A script is read as for a run, with the same refusals. Its plain spelling is written, in version 2 if it has version 1,
 //! and otherwise in its own. The programs stay, and no version affects their meaning. So the upgrade runs as the script does.
 ghost use Rattle.std.specs.Prelude.{◌≤◌, length};
-ghost use Rattle.nmgc_io.specs.Counts.{Rose};
+ghost use Rattle.nmgc_io.specs.Text.{Rose};
 ghost use Rattle.nmgc_limits.specs.Limits.{most_script_bytes};
 ghost use Rattle.nmgc_cli.specs.Output.{AnswersBytes, AnswersScript, IsUpgraded};
 

@@ -1,11 +1,11 @@
 -- The tie by places is a run's tie by blocks, if the blocks with names are the places.
 use Rattle.std.specs.Prelude.{ℕ, ◌≡◌, ◌⊎◌, ◌↔◌, List, Contains, IsSome}
-use Rattle.nmgc_world_spec.specs.{declared.value.Name.Name, World.node_of, Step.shared_name}
+use Rattle.nmgc_world_spec.specs.{declared.value.Name.Name, World.node_of, World.shared_name}
 use Rattle.nmgc_snapshot_laws.specs.State.{State}
-use Rattle.nmgc_alloc.specs.{Numbered.Segments, Numbered.block_place, Segments.IsSegments, AllocState.AllocState, AllocState.LiesIn, AllocState.cells, Stands.StandsFor}
-use Rattle.nmgc_heap_spec.specs.Places.{Place, shared_place}
+use Rattle.nmgc_alloc.specs.{AllocState.Segments, AllocState.block_place, AllocState.AllocState, AllocState.LiesIn, AllocState.cells, AllocState.StandsFor, Segments.IsSegments}
+use Rattle.nmgc_heap_spec.specs.Objects.{Place, shared_place}
 use Rattle.nmgc_round.specs.{View.Opening, Marking.marks_of}
-use Rattle.nmgc_stop_spec.specs.{Cycle.Cycle, Placed.IsBlockPlace}
+use Rattle.nmgc_stop_spec.specs.Cycle.{Cycle, IsBlockPlace}
 use Rattle.nmgc_segment.specs.Marks.{epoch_of}
 use Rattle.nmgc_collector_laws.specs.Marker.{IsTied as IsTiedByBlocks}
 use Rattle.nmgc_mark.specs.{Seen.MarkerSeen, Tie.AreApart, Tie.IsTied}

@@ -4,8 +4,8 @@ use Rattle.nmgc_world_spec.specs.Known.{IsWorld}
 use Rattle.nmgc_world_laws.specs.Reachable.{IsSound}
 use Rattle.nmgc_object.specs.declared.layout.Layout.{Layout}
 use Rattle.nmgc_snapshot_laws.specs.State.{State as Core, opening}
-use Rattle.nmgc_alloc.specs.{Numbered.Segments, Segments.IsSegments}
-use Rattle.nmgc_heap_spec.specs.Places.{Place}
+use Rattle.nmgc_alloc.specs.{AllocState.Segments, Segments.IsSegments}
+use Rattle.nmgc_heap_spec.specs.Objects.{Place}
 use Rattle.nmgc_journal.specs.declared.report.MutatorEnd.{MutatorEnd}
 use Rattle.nmgc_round.specs.{Events.rows_in, Finishing.IsFinished, Finishing.places_then, Rule.now, Seat.RoundSeat, View.Opening, View.Scan, Marking.Marks, Marking.marks_of, Marking.marks_after}
 use Rattle.nmgc_mutator.specs.declared.mutator.Mutator.{Mutator}
@@ -13,7 +13,7 @@ use Rattle.nmgc_collector_laws.specs.{Worked.Done, Collector.EachMutator, Collec
 use Rattle.nmgc_stop_spec.specs.Cycle.{Cycle}
 use Rattle.nmgc_stop_spec.specs.Kept.{interval_of}
 use Rattle.nmgc_weak.specs.Queues.{weak_count}
-use Rattle.nmgc_run_spec.specs.{Heap.HoldsAtStop, State.State, State.next_cycle, State.cycle_started}
+use Rattle.nmgc_run_spec.specs.{Heap.HoldsAtStop, Run.State, Run.next_cycle, Run.cycle_started}
 use Rattle.nmgc_sweep.specs.Sweeping.{HasListedNothing, HasNoted}
 use Rattle.nmgc_segment.specs.Marks.{epoch_of}
 use Rattle.nmgc_mark.specs.{Marker.HasMarked, Marker.blank, Tie.IsTied as IsTiedByPlaces, Tie.with_places}

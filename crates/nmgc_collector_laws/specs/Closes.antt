@@ -2,13 +2,13 @@
 use Rattle.std.specs.Prelude.{ℕ, ◌≡◌, ◌+◌, ◌-◌, ◌/◌, ◌≤◌, List, true, false}
 use Rattle.nmgc_snapshot_laws.specs.State.{State as Core}
 use Rattle.nmgc_alloc.specs.AllocState.{AllocState}
-use Rattle.nmgc_heap_spec.specs.Places.{Place}
+use Rattle.nmgc_heap_spec.specs.Objects.{Place}
 use Rattle.nmgc_stop_spec.specs.Cycle.{Cycle}
 use Rattle.nmgc_stop_spec.specs.Kept.{IsKeptObject, interval_of}
 use Rattle.nmgc_world_laws.specs.Reachable.{IsSound}
-use Rattle.nmgc_run_spec.specs.{Closing.IsSoon, Closing.IsPaced, Closing.MayWait, State.State}
+use Rattle.nmgc_run_spec.specs.Run.{IsSoon, IsPaced, MayWait, State}
 use Rattle.nmgc_collector_laws.specs.{Collector.IsPacedAfterRound, Marker.IsCoreOf, Marker.IsTied, Seen.CollectorSeen}
-use Rattle.nmgc_world_spec.specs.Listing.{Counts}
+use Rattle.nmgc_world_spec.specs.Reach.{Counts}
 
 -- the law that a closing isn't too late: earlier rounds scanned their quotas, and the last scanned something or was the first
 abbrev pub ClosingIsSoon : Type 0

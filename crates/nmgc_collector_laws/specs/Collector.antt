@@ -4,15 +4,15 @@
 -- It holds after a new collector's opening stop, after every stop, and after the round between two stops, for the same run.
 -- Contracts see the collector as `CollectorSeen`.
 use Rattle.std.specs.Prelude.{ℕ, ◌≡◌, ◌≢◌, ◌⊎◌, ◌↔◌, ◌+◌, ◌-◌, ◌*◌, ◌<◌, ◌≤◌, List, [], ◌∷◌, ◌++◌, length, slice_get, Contains, Some, None, true}
-use Rattle.nmgc_world_spec.specs.{declared.command.Reply.Reply, World.World, History.Row, Listing.MoreThan}
-use Rattle.nmgc_object.specs.{declared.layout.Layout.Layout, declared.layout.Nursery.Nursery, Places.nursery_place, Places.reserve_count}
+use Rattle.nmgc_world_spec.specs.{declared.command.Reply.Reply, World.World, Reach.Row, Reach.MoreThan}
+use Rattle.nmgc_object.specs.{declared.layout.Layout.Layout, declared.layout.Nursery.Nursery, Words.nursery_place, Words.reserve_count}
 use Rattle.nmgc_alloc.specs.{Reserve.free_count, Settled.AreSettled}
-use Rattle.nmgc_heap_spec.specs.Places.{Place}
+use Rattle.nmgc_heap_spec.specs.Objects.{Place}
 use Rattle.nmgc_stop_spec.specs.{Nurseries.AreUsed, Nurseries.LieInOrder, Nurseries.AreEmpty, Nurseries.nursery_at, Remembers.Remembers, Cycle.Cycle}
 use Rattle.nmgc_snapshot_laws.specs.State.{State as Core, names_of}
 use Rattle.nmgc_journal.specs.declared.report.RoundRows.{RoundRows}
-use Rattle.nmgc_run_spec.specs.State.{Plan, State, Progress, idle, marking, sweeping, phase_of, layout_of, start}
-use Rattle.nmgc_run_spec.specs.{Closing.IsFoundObject, Round.IsRound, Stop.answer_of, Run.Run, Run.IsRun, Run.AreRowsOf, Run.last_state, Heap.HoldsAtStop, AfterRound.HoldsAfterRound, Heap.snapshots}
+use Rattle.nmgc_run_spec.specs.Run.{Plan, State, Progress, idle, marking, sweeping, phase_of, layout_of, start, IsFoundObject, IsRound, answer_of, Run, IsRun, AreRowsOf, last_state}
+use Rattle.nmgc_run_spec.specs.{Heap.HoldsAtStop, AfterRound.HoldsAfterRound, Heap.snapshots}
 use Rattle.nmgc_collector_laws.specs.{Seen.CollectorSeen, Seen.MutatorSeen, Seen.ends_of, Seen.nurseries_of, Seen.recorded_in, Seen.young_weaks_in, Seen.finalised_in, Marker.IsCoreOf, Marker.AreRemembered, Marker.IsTied, Worked.ListsFinalised}
 use Rattle.nmgc_mark.specs.{Seen.MarkerSeen, Marker.HasRoomToMark}
 use Rattle.nmgc_sweep.specs.Sweeping.{HasListedNothing, HasNoted, IsSweeping}

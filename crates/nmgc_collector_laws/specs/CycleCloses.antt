@@ -1,15 +1,15 @@
 -- A cycle that closes with weak pointers, in the terms of a run: when it may, and its result.
 use Rattle.std.specs.Prelude.{ℕ, ◌≡◌, true, List, [], ◌↔◌}
-use Rattle.nmgc_world_spec.specs.{declared.value.Name.Name, Reach.Lists, Reach.closed, Listing.Counts}
+use Rattle.nmgc_world_spec.specs.{declared.value.Name.Name, Reach.Lists, Reach.closed, Reach.Counts}
 use Rattle.nmgc_world_laws.specs.Reachable.{IsSound}
 use Rattle.nmgc_snapshot_laws.specs.Machine.{AreEmpty}
 use Rattle.nmgc_segment.specs.{Invariant.IsMarked, Marks.epoch_of}
-use Rattle.nmgc_alloc.specs.{Numbered.Segments, Numbered.nth, AllocState.LiesIn}
-use Rattle.nmgc_heap_spec.specs.{Changes.AreEarlier, Places.Place, Roots.ListsWeaks}
+use Rattle.nmgc_alloc.specs.AllocState.{Segments, nth, LiesIn}
+use Rattle.nmgc_heap_spec.specs.{Changes.AreEarlier, Objects.Place, Roots.ListsWeaks}
 use Rattle.nmgc_round.specs.{Objects.earlier, View.Opening}
 use Rattle.nmgc_stop_spec.specs.Cycle.{Cycle, IsDeadIn, IsKeptIn}
 use Rattle.nmgc_stop_spec.specs.Kept.{interval_of, IsKeptObject}
-use Rattle.nmgc_run_spec.specs.{Closing.Closes, State.State, State.sweeping}
+use Rattle.nmgc_run_spec.specs.Run.{Closes, State, sweeping}
 use Rattle.nmgc_collector_laws.specs.{Marker.IsCoreOf, Blocks.AreOfBlocks}
 use Rattle.nmgc_mark.specs.{Seen.MarkerSeen, Stopped.IsReady}
 use Rattle.nmgc_weak.specs.{Resolve.CanResolve, Resolve.HasResolved, declared.weaks.Death.Death, declared.weaks.OldWeak.OldWeak}

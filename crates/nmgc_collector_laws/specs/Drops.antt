@@ -2,15 +2,15 @@
 --
 -- A round or stop with a sweep is first treated as if the segments stayed, with all places. Then the freed places go.
 use Rattle.std.specs.Prelude.{ℕ, ◌≡◌, ◌≢◌, ◌≤◌, List, [], ◌∷◌, Contains, IsSome, Some}
-use Rattle.nmgc_world_spec.specs.{declared.command.Reply.Reply, declared.node.Node.Node, declared.value.Name.Name, declared.value.Value.TheVariants.Ref, World.World, World.node_of, Step.shared_name, History.Row}
+use Rattle.nmgc_world_spec.specs.{declared.command.Reply.Reply, declared.node.Node.Node, declared.value.Name.Name, declared.value.Value.TheVariants.Ref, World.World, World.node_of, World.shared_name, Reach.Row}
 use Rattle.nmgc_segment.specs.declared.state.State.TheVariants as stands
-use Rattle.nmgc_object.specs.{Places.nursery_place, declared.layout.Layout.Layout, declared.layout.Nursery.Nursery}
-use Rattle.nmgc_alloc.specs.{Numbered.Segments, Segments.IsSegments, Stands.StandsFor, AllocState.AllocState, AllocState.SweepsSome, AllocState.LiesIn, Invariant.LieOnce, Invariant.LiesNowhere, Invariant.HasBlock, AllocState.cells, AllocState.count_in}
-use Rattle.nmgc_heap_spec.specs.{Places.Place, Shape.holds, Shape.free_slots, Tracked.IsTracked}
+use Rattle.nmgc_object.specs.{Words.nursery_place, declared.layout.Layout.Layout, declared.layout.Nursery.Nursery}
+use Rattle.nmgc_alloc.specs.{AllocState.Segments, AllocState.StandsFor, AllocState.AllocState, AllocState.SweepsSome, AllocState.LiesIn, AllocState.cells, AllocState.count_in, Segments.IsSegments, Invariant.LieOnce, Invariant.LiesNowhere, Invariant.HasBlock}
+use Rattle.nmgc_heap_spec.specs.{Objects.Place, Objects.holds, Objects.free_slots, Tracked.IsTracked}
 use Rattle.nmgc_stop_spec.specs.{Nurseries.LieInOrder, Remembers.Remembers, Cycle.IsKeptIn, Cycle.Cycle}
 use Rattle.nmgc_journal.specs.declared.report.MutatorEnd.{MutatorEnd}
 use Rattle.nmgc_collector_laws.specs.Collector.{AreNurseries}
-use Rattle.nmgc_run_spec.specs.{Heap.HoldsAtStop, AfterRound.HoldsAfterRound, Heap.snapshots, Round.IsRound, Run.Run, Run.IsRun, Run.last_state, State.Plan, State.State, State.sweeping}
+use Rattle.nmgc_run_spec.specs.{Heap.HoldsAtStop, AfterRound.HoldsAfterRound, Heap.snapshots, Run.IsRound, Run.Run, Run.IsRun, Run.last_state, Run.Plan, Run.State, Run.sweeping}
 use Rattle.nmgc_run_laws.specs.Sound.{AreSoundBlocks, IsAfterClosing, IsRunnable, LieKnown, WaitKnown}
 
 -- a sweep that frees only untracked names: names stay in their blocks, and all tracked names except g and new objects still

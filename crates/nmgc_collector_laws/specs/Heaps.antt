@@ -1,13 +1,13 @@
 -- The heap of a marking cycle in the terms of a run: at rest at a stop, and after a round and its promotion.
 use Rattle.std.specs.Prelude.{ℕ, ◌≡◌, List, map, slice_get, Some, All}
 use Rattle.nmgc_object.specs.declared.layout.Layout.{Layout}
-use Rattle.nmgc_alloc.specs.{Stands.StandsFor, Numbered.Segments, Segments.IsSegments}
-use Rattle.nmgc_heap_spec.specs.{Places.Place, Roots.RepresentsRoots}
+use Rattle.nmgc_alloc.specs.{AllocState.StandsFor, AllocState.Segments, Segments.IsSegments}
+use Rattle.nmgc_heap_spec.specs.{Objects.Place, Roots.RepresentsRoots}
 use Rattle.nmgc_journal.specs.declared.report.MutatorEnd.{MutatorEnd}
 use Rattle.nmgc_round.specs.{View.Opening, View.Seen as View, Objects.earlier, Rule.now, Starting.CanOpen, Finishing.Leaves, Finishing.places_then}
 use Rattle.nmgc_mutator.specs.{declared.mutator.Mutator.Mutator, Ready.IsWhole, Does.remembered, Records.numbers}
 use Rattle.nmgc_collector_laws.specs.{Collector.AreAtRest, Collector.IsMarking, Seen.CollectorSeen, Seen.MutatorSeen, Seen.ends_of, RestMarking.IsAtRestMarking, RestMarking.opening_beside}
-use Rattle.nmgc_run_spec.specs.{Heap.HoldsAtStop, AfterRound.HoldsAfterRound, Terms.HasAllRegisters, Terms.registers_of, Terms.queues_of, Terms.serials_of, Heap.snapshots, State.Plan, State.State, State.marking, State.layout_of}
+use Rattle.nmgc_run_spec.specs.{Heap.HoldsAtStop, AfterRound.HoldsAfterRound, Terms.HasAllRegisters, Terms.registers_of, Terms.queues_of, Terms.serials_of, Heap.snapshots, Run.Plan, Run.State, Run.marking, Run.layout_of}
 use Rattle.nmgc_run_laws.specs.Sound.{IsSoundState, LieKnown}
 use Rattle.nmgc_stop_spec.specs.Cycle.{Cycle}
 use Rattle.nmgc_mark.specs.Stopped.{IsReady}

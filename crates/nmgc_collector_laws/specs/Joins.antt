@@ -3,8 +3,8 @@ use Rattle.std.specs.Prelude.{ℕ, ◌≡◌, ◌≢◌, ◌+◌, ◌≤◌, ◌
 use Rattle.nmgc_world_spec.specs.declared.node.Kind.TheVariants as kind
 use Rattle.nmgc_world_spec.specs.{Reach.IsInOrder, World.World, World.node_of}
 use Rattle.nmgc_object.specs.{Words.header_word, Words.IsHeader, declared.size.TheConstants.HEADER_WORDS, declared.words.TheConstants.WEAK_FIELDS, declared.words.Header.Header, declared.layout.Nursery.Nursery}
-use Rattle.nmgc_alloc.specs.Numbered.{Segments}
-use Rattle.nmgc_heap_spec.specs.{Moves.Moved, Moves.Copies, Moves.Forwards, Moves.new_place, Places.Place, Roots.ListsWeaks}
+use Rattle.nmgc_alloc.specs.AllocState.{Segments}
+use Rattle.nmgc_heap_spec.specs.{Moves.Moved, Moves.Copies, Moves.Forwards, Moves.new_place, Objects.Place, Roots.ListsWeaks}
 use Rattle.nmgc_stop_spec.specs.Stopped.{Stopped, IsStopped, IsSettled, young_base}
 use Rattle.nmgc_weak.specs.Queues.{weak_count}
 use Rattle.nmgc_collector_laws.specs.Stays.{places_after}

@@ -1,6 +1,6 @@
 -- A marking cycle as a running collector keeps it, over a round, its stop and a promotion; and its pace.
 use Rattle.std.specs.Prelude.{ℕ, ◌≡◌, ◌+◌, ◌<◌, ◌≤◌, ◌⊎◌, ◌↔◌, true, false, List, [], length, slice_get, Some}
-use Rattle.nmgc_world_spec.specs.History.{Row}
+use Rattle.nmgc_world_spec.specs.Reach.{Row}
 use Rattle.nmgc_world_laws.specs.Reachable.{IsSound}
 use Rattle.nmgc_alloc.specs.AllocState.{AllocState}
 use Rattle.nmgc_heap_spec.specs.Moves.{Moved}
@@ -9,7 +9,7 @@ use Rattle.nmgc_mutator.specs.{declared.mutator.Mutator.Mutator, Does.remembered
 use Rattle.nmgc_collector_laws.specs.{Collector.IsMarking, Collector.EachMutator, Collector.HasFound, Collector.IsPacedAtStop, Collector.IsPacedAfterRound, Seen.CollectorSeen, Seen.MutatorSeen, Stays.HasPromoted, Stays.places_after, RestMarking.with_rows}
 use Rattle.nmgc_weak.specs.Queues.{weak_count}
 use Rattle.nmgc_mark.specs.Seen.{MarkerSeen}
-use Rattle.nmgc_run_spec.specs.State.{State}
+use Rattle.nmgc_run_spec.specs.Run.{State}
 
 -- no mutator remembers anything
 abbrev pub NoneRemember : CollectorSeen → Type 0

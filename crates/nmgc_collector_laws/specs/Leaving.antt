@@ -1,11 +1,11 @@
 -- The results of a round for its stop: all that its promotion needs, and the worlds that the collector may use afterwards.
 use Rattle.std.specs.Prelude.{List, ◌∷◌}
-use Rattle.nmgc_world_spec.specs.{declared.command.Reply.Reply, History.Row}
-use Rattle.nmgc_object.specs.Places.{nursery_place}
+use Rattle.nmgc_world_spec.specs.{declared.command.Reply.Reply, Reach.Row}
+use Rattle.nmgc_object.specs.Words.{nursery_place}
 use Rattle.nmgc_alloc.specs.Segments.{IsSegments}
-use Rattle.nmgc_heap_spec.specs.{Places.Place, Moves.StillSpoken}
+use Rattle.nmgc_heap_spec.specs.{Objects.Place, Moves.StillSpoken}
 use Rattle.nmgc_stop_spec.specs.Stopped.{Stopped, IsStopped}
-use Rattle.nmgc_run_spec.specs.{State.State, State.Plan, State.layout_of, Run.Run, Run.last_state, Terms.registers_of, Terms.queues_of, Terms.serials_of, Heap.snapshots}
+use Rattle.nmgc_run_spec.specs.{Run.State, Run.Plan, Run.layout_of, Run.Run, Run.last_state, Terms.registers_of, Terms.queues_of, Terms.serials_of, Heap.snapshots}
 use Rattle.nmgc_collector_laws.specs.{Seen.CollectorSeen, Seen.ends_of, Seen.nurseries_of, Seen.recorded_in, Seen.young_weaks_in, Collector.IsAfterRound}
 use Rattle.nmgc_run_laws.specs.Sound.{IsRunnable}
 

@@ -2,11 +2,11 @@
 use Rattle.std.specs.Prelude.{ℕ, ◌≡◌, ◌↔◌, ◌+◌, List, [], ◌∷◌, length, map, filter, Contains, IsSome, false, All}
 use Rattle.nmgc_world_spec.specs.{declared.value.Name.Name, World.World, World.node_of}
 use Rattle.nmgc_segment.specs.{Invariant.IsMarked, Invariant.InSnapshot, Marks.epoch_of}
-use Rattle.nmgc_alloc.specs.{Numbered.nth, Numbered.Segments, AllocState.AllocState, AllocState.LiesIn}
-use Rattle.nmgc_heap_spec.specs.Places.{Place}
+use Rattle.nmgc_alloc.specs.AllocState.{nth, Segments, AllocState, LiesIn}
+use Rattle.nmgc_heap_spec.specs.Objects.{Place}
 use Rattle.nmgc_snapshot_laws.specs.{declared.event.Entry.Entry, declared.event.Event.Event, State.State as Core, State.opening, Machine.AreEmpty, Machine.is_pushed_in, Run.Runs}
 use Rattle.nmgc_stop_spec.specs.Cycle.{Cycle}
-use Rattle.nmgc_run_spec.specs.Closing.{owed}
+use Rattle.nmgc_run_spec.specs.Run.{owed}
 use Rattle.nmgc_mark.specs.Seen.{MarkerSeen}
 
 -- the addresses are the addresses of the names, in order

@@ -1,13 +1,13 @@
 -- Remembered entries of a marking round, and the machine's steps: the round's events, and then a push of each owed object.
 use Rattle.std.specs.Prelude.{ℕ, ◌≡◌, ◌<◌, true, List, [], map, slice_get, Contains, Some}
-use Rattle.nmgc_object.specs.Places.{nursery_place}
+use Rattle.nmgc_object.specs.Words.{nursery_place}
 use Rattle.nmgc_snapshot_laws.specs.State.{State as Core, names_of}
 use Rattle.nmgc_round.specs.{declared.table.Round.Round, Events.rows_in, View.Opening, View.Part, View.Scan, View.Seen, View.whole, Marking.marks_of, Rule.now, Seat.RoundSeat, Seat.seen, Seating.collecting, Seating.all_together, Starting.CanOpen, Finishing.HasAll, Finishing.IsFinished, Finishing.places_then}
 use Rattle.nmgc_mutator.specs.{declared.mutator.Mutator.Mutator, Does.remembered as remembered_of, Records.all_pushed}
 use Rattle.nmgc_collector_laws.specs.{Turn.SlicesAreDone, Worked.Done, Worked.HaveWorked, Marker.AreRemembered, Marker.IsCoreOf, RestMarking.IsMachineAtRest, RestMarking.with_rows}
 use Rattle.nmgc_stop_spec.specs.Cycle.{Cycle}
 use Rattle.nmgc_world_spec.specs.declared.value.Name.{Name}
-use Rattle.nmgc_run_spec.specs.Closing.{HoldsOnce, IsMet}
+use Rattle.nmgc_run_spec.specs.Run.{HoldsOnce, IsMet}
 
 -- each mutator remembers, in ring and set together, the addresses in segments of the objects that its part owes, in order
 abbrev pub HaveOwed : Opening → List Part → List Mutator → Type 0
@@ -41,8 +41,8 @@ SlicesAreOwed = (o : Opening) (before : List ℕ) (round : Round) (old mutators 
     HaveOwed o (gathered o scans seats).parts mutators
 
 -- the machine after a round: it went through the round's events, and then pushed all owed objects. It has the round's rows,
--- and the marks and queue after the events: all marked names are met. For each mutator it has pushed exactly the mutator's remembered entries that are
--- in the snapshot, and all entries are addresses in segments
+-- and the marks and queue after the events. All marked names are met. For each mutator it has pushed exactly the mutator's
+-- remembered entries that are in the snapshot, and all entries are addresses in segments
 pub record GoesOn (c : Cycle) (o : Opening) (words : List ℕ) (v : Seen) (h : IsFinished o words v) (mutators : List Mutator) (core : Core) : Type 0 where
   pub machine : IsCoreOf (with_rows c (rows_in h.events)) (now o h.events).world core
   pub marks : marks_of core ≡ marks_of (now o h.events)

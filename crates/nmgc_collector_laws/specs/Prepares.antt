@@ -3,11 +3,11 @@ use Rattle.std.specs.Prelude.{ℕ, ◌≡◌, ◌+◌, List, map}
 use Rattle.nmgc_world_spec.specs.Known.{IsWorld}
 use Rattle.nmgc_segment.specs.declared.state.State.TheVariants as stands
 use Rattle.nmgc_object.specs.{FinQueue.FinQueue, declared.layout.Layout.Layout}
-use Rattle.nmgc_alloc.specs.{Numbered.Segments, Segments.IsSegments, AllocState.IsIn, AllocState.NoneIs, Stands.prepared, Settled.AreSettled}
-use Rattle.nmgc_heap_spec.specs.Places.{Place}
+use Rattle.nmgc_alloc.specs.{AllocState.Segments, AllocState.IsIn, AllocState.NoneIs, AllocState.prepared, Segments.IsSegments, Settled.AreSettled}
+use Rattle.nmgc_heap_spec.specs.Objects.{Place}
 use Rattle.nmgc_journal.specs.declared.report.MutatorEnd.{MutatorEnd}
 use Rattle.nmgc_round.specs.View.{Opening}
-use Rattle.nmgc_run_spec.specs.{Heap.HoldsAtStop, Terms.registers_of, Terms.queues_of, State.State, State.cycle_started}
+use Rattle.nmgc_run_spec.specs.{Heap.HoldsAtStop, Terms.registers_of, Terms.queues_of, Run.State, Run.cycle_started}
 use Rattle.nmgc_segment.specs.Marks.{epoch_of}
 use Rattle.nmgc_mark.specs.Beginning.{IsPrepared}
 

@@ -3,13 +3,13 @@
 use Rattle.std.specs.Prelude.{ℕ, ◌≡◌, List, [], map, All}
 use Rattle.nmgc_world_spec.specs.{declared.value.Name.Name, Reach.closed}
 use Rattle.nmgc_object.specs.{FinQueue.FinQueue, declared.layout.Layout.Layout}
-use Rattle.nmgc_alloc.specs.{Stands.StandsFor, Numbered.Segments, Segments.IsSegments, Settled.AreSettled}
+use Rattle.nmgc_alloc.specs.{AllocState.StandsFor, AllocState.Segments, Segments.IsSegments, Settled.AreSettled}
 use Rattle.nmgc_journal.specs.declared.report.MutatorEnd.{MutatorEnd}
 use Rattle.nmgc_round.specs.{View.Opening, Rule.now}
 use Rattle.nmgc_mutator.specs.declared.mutator.Mutator.{Mutator}
 use Rattle.nmgc_collector_laws.specs.{Collector.IsMarking, Seen.CollectorSeen, Seen.ends_of, CycleCloses.HasClosed, RestMarking.IsAtRestMarking, RestMarking.opening_beside, Sweeps.all_carried}
 use Rattle.nmgc_run_laws.specs.Course.{IsLastBegun, WaitsWhole}
-use Rattle.nmgc_run_spec.specs.{Heap.HoldsAtStop, Terms.HasAllRegisters, Terms.registers_of, Terms.queues_of, Terms.serials_of, State.State, State.sweeping}
+use Rattle.nmgc_run_spec.specs.{Heap.HoldsAtStop, Terms.HasAllRegisters, Terms.registers_of, Terms.queues_of, Terms.serials_of, Run.State, Run.sweeping}
 use Rattle.nmgc_sweep.specs.{Sweeping.HasNoted, Sweeping.IsSweeping, Seen.CycleSeen, Seen.SweeperSeen}
 use Rattle.nmgc_segment.specs.Marks.{epoch_of}
 use Rattle.nmgc_mark.specs.{Seen.MarkerSeen, Marker.HasMarked, Stopped.HasFinished}

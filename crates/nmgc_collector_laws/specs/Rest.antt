@@ -3,8 +3,8 @@ use Rattle.std.specs.Prelude.{ℕ, ◌≡◌, ◌<◌, false, List, [], length, 
 use Rattle.nmgc_world_spec.specs.{World.World, Known.IsWorld}
 use Rattle.nmgc_object.specs.declared.layout.Layout.{Layout}
 use Rattle.nmgc_snapshot_laws.specs.State.{unmarked}
-use Rattle.nmgc_alloc.specs.{Numbered.Segments, Segments.IsSegments}
-use Rattle.nmgc_heap_spec.specs.{Places.Place, Represents.Represents, Represents.NoNode, Roots.RepresentsRoots}
+use Rattle.nmgc_alloc.specs.{AllocState.Segments, Segments.IsSegments}
+use Rattle.nmgc_heap_spec.specs.{Objects.Place, Represents.Represents, Represents.NoNode, Roots.RepresentsRoots}
 use Rattle.nmgc_stop_spec.specs.{Occupied.AreBlocks, Stopped.young_base}
 use Rattle.nmgc_round.specs.{View.Hand, View.Opening, Own.old_stacks}
 use Rattle.nmgc_mutator.specs.{declared.mutator.Mutator.Mutator, Ready.IsWhole, Ready.IsUnused}

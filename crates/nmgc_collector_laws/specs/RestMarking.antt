@@ -1,11 +1,11 @@
 -- A heap that represents a world between two rounds of a marking cycle, and the opening of the next round.
 use Rattle.std.specs.Prelude.{ℕ, ◌≡◌, ◌<◌, true, List, [], ◌∷◌, ◌++◌, length, map, slice_get, Contains, Some, All}
-use Rattle.nmgc_world_spec.specs.{World.World, Known.IsWorld, History.Row}
+use Rattle.nmgc_world_spec.specs.{World.World, Known.IsWorld, Reach.Row}
 use Rattle.nmgc_world_laws.specs.Reachable.{IsSound}
 use Rattle.nmgc_object.specs.declared.layout.Layout.{Layout}
 use Rattle.nmgc_snapshot_laws.specs.{declared.event.Entry.Entry, Machine.AreEmpty, State.State as Core}
-use Rattle.nmgc_alloc.specs.{Numbered.Segments, Segments.IsSegments}
-use Rattle.nmgc_heap_spec.specs.{Places.Place, Changes.AreEarlier, Represents.Represents, Represents.NoNode, Roots.RepresentsRoots}
+use Rattle.nmgc_alloc.specs.{AllocState.Segments, Segments.IsSegments}
+use Rattle.nmgc_heap_spec.specs.{Objects.Place, Changes.AreEarlier, Represents.Represents, Represents.NoNode, Roots.RepresentsRoots}
 use Rattle.nmgc_stop_spec.specs.{Occupied.AreBlocks, Stopped.young_base, Kept.interval_of, Cycle.Cycle}
 use Rattle.nmgc_round.specs.{View.Opening, Objects.earlier, Starting.CanOpen}
 use Rattle.nmgc_mutator.specs.declared.mutator.Mutator.{Mutator}

@@ -5,8 +5,8 @@ use Rattle.nmgc_script.specs.{declared.script.Config.Config, declared.script.Scr
 use Rattle.nmgc_journal.specs.{declared.report.Phase.TheVariants.Idle, declared.report.StopRow.StopRow, declared.report.End.TheVariants.Done, declared.report.MutatorEnd.MutatorEnd, declared.report.Report.Report}
 use Rattle.nmgc_limits.specs.declared.mutators.TheConstants.{REGISTERS, SHARED_MAKER, SHARED_SLOTS}
 use Rattle.nmgc_segment.specs.{Segment.free_segment, declared.state.State.TheVariants.Current}
-use Rattle.nmgc_alloc.specs.Numbered.{Segments}
-use Rattle.nmgc_run_spec.specs.{State.Plan, State.layout_of, Lawful.IsLawful}
+use Rattle.nmgc_alloc.specs.AllocState.{Segments}
+use Rattle.nmgc_run_spec.specs.{Run.Plan, Run.layout_of, Lawful.IsLawful}
 
 -- a small heap's configuration: 32 segments of 64 words, and a nursery as large as a segment
 abbrev pub small_heap : Config

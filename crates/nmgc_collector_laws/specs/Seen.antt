@@ -1,8 +1,8 @@
 -- The view of a collector in contracts: all that its report would have now, and its state between two calls.
 use Rattle.std.specs.Prelude.{ℕ, List, map, flat_map, Bool, Option}
 use Rattle.nmgc_object.specs.{declared.layout.Nursery.Nursery, FinQueue.FinQueue}
-use Rattle.nmgc_alloc.specs.Numbered.{Segments}
-use Rattle.nmgc_heap_spec.specs.Places.{Place}
+use Rattle.nmgc_alloc.specs.AllocState.{Segments}
+use Rattle.nmgc_heap_spec.specs.Objects.{Place}
 use Rattle.nmgc_journal.specs.{declared.report.RoundRows.RoundRows, declared.report.Phase.Phase, declared.report.StopRow.StopRow, declared.report.CycleRow.CycleRow, declared.report.MutatorEnd.MutatorEnd, declared.report.End.End}
 use Rattle.nmgc_mark.specs.Seen.{MarkerSeen, WorkSeen}
 use Rattle.nmgc_sweep.specs.Seen.{SweeperSeen, CycleSeen}

@@ -1,8 +1,8 @@
 -- A marking cycle over a promotion: the snapshot's blocks, marks and addresses stay, and moved objects are in no snapshot.
 use Rattle.std.specs.Prelude.{ℕ, ◌≡◌, List, [], ◌∷◌, map}
-use Rattle.nmgc_alloc.specs.{Numbered.Segments, Segments.IsSegments, AllocState.AllocState, Stands.StandsFor}
-use Rattle.nmgc_heap_spec.specs.{Places.Place, Moves.Moved, Moves.settled}
-use Rattle.nmgc_stop_spec.specs.{Occupied.KeepsMarks, Promoted.PlacesEach, Stopped.Stopped, Stopped.IsRoundOf, Stopped.IsSettled, Stopped.young_base, Cycle.Cycle}
+use Rattle.nmgc_alloc.specs.{AllocState.Segments, AllocState.AllocState, AllocState.StandsFor, Segments.IsSegments}
+use Rattle.nmgc_heap_spec.specs.{Objects.Place, Moves.Moved, Moves.settled}
+use Rattle.nmgc_stop_spec.specs.{Occupied.KeepsMarks, Cycle.PlacesEach, Cycle.Cycle, Stopped.Stopped, Stopped.IsRoundOf, Stopped.IsSettled, Stopped.young_base}
 use Rattle.nmgc_run_laws.specs.Sound.{LieKnown}
 
 -- a promotion beside a cycle: it placed the moved objects in blocks that weren't in use, and left the mark bytes and the

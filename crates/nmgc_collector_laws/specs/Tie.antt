@@ -5,13 +5,13 @@ use Rattle.nmgc_world_spec.specs.World.{World}
 use Rattle.nmgc_world_laws.specs.Reachable.{IsSound}
 use Rattle.nmgc_object.specs.declared.layout.Layout.{Layout}
 use Rattle.nmgc_snapshot_laws.specs.State.{State as Core}
-use Rattle.nmgc_alloc.specs.{Numbered.Segments, Segments.IsSegments}
-use Rattle.nmgc_heap_spec.specs.Places.{Place}
+use Rattle.nmgc_alloc.specs.{AllocState.Segments, Segments.IsSegments}
+use Rattle.nmgc_heap_spec.specs.Objects.{Place}
 use Rattle.nmgc_journal.specs.declared.report.MutatorEnd.{MutatorEnd}
 use Rattle.nmgc_round.specs.{Seating.collecting, View.Opening, View.whole}
 use Rattle.nmgc_stop_spec.specs.Cycle.{Cycle}
 use Rattle.nmgc_stop_spec.specs.Kept.{interval_of}
-use Rattle.nmgc_run_spec.specs.{Heap.HoldsAtStop, State.State}
+use Rattle.nmgc_run_spec.specs.{Heap.HoldsAtStop, Run.State}
 use Rattle.nmgc_collector_laws.specs.Marker.{IsCoreOf, IsTied}
 use Rattle.nmgc_mark.specs.{Seen.MarkerSeen, Tie.IsTied as IsTiedByPlaces, Work.marks_seen}
 

@@ -1,9 +1,9 @@
 -- From a stop to the promotion of the next one: statements of laws.
 use Rattle.std.specs.Prelude.{ℕ, ◌≡◌, ◌≤◌, ◌⊎◌, List, [], ◌∷◌, length, map, slice_get, slice_index_or, Some, All}
-use Rattle.nmgc_world_spec.specs.{World.World, Known.IsWorld, History.Row, History.IsLegal, History.rows_of, History.replayed}
-use Rattle.nmgc_object.specs.Places.{nursery_place, reserve_count}
-use Rattle.nmgc_alloc.specs.{Numbered.Segments, Segments.IsSegments, Reserve.free_count}
-use Rattle.nmgc_heap_spec.specs.{Places.Place, Changes.AreEarlier, Roots.RepresentsRoots, Moves.Moved, Moves.settled}
+use Rattle.nmgc_world_spec.specs.{World.World, Known.IsWorld, Reach.Row, Reach.IsLegal, Reach.rows_of, Reach.replayed}
+use Rattle.nmgc_object.specs.Words.{nursery_place, reserve_count}
+use Rattle.nmgc_alloc.specs.{AllocState.Segments, Segments.IsSegments, Reserve.free_count}
+use Rattle.nmgc_heap_spec.specs.{Objects.Place, Changes.AreEarlier, Roots.RepresentsRoots, Moves.Moved, Moves.settled}
 use Rattle.nmgc_stop_spec.specs.{Nurseries.AreUsed, Nurseries.LieInOrder, Nurseries.AreEmpty, Occupied.AreBlocks, Remembers.Remembers, Stopped.Stopped, Stopped.IsStopped, Stopped.IsSettled, Stopped.young_base}
 use Rattle.nmgc_round.specs.{declared.table.Round.Round, Events.rows_in, View.Opening, View.Seen, View.whole, Rule.now, Objects.earlier, Seat.RoundSeat, Seat.IsAt, Seat.seen, Seating.alone, Seating.collecting, Seating.all_together, Starting.CanOpen, Finishing.IsFinished, Finishing.HasAll, Finishing.Leaves, Finishing.places_then}
 use Rattle.nmgc_mutator.specs.{declared.mutator.Mutator.Mutator, Does.HasDone}

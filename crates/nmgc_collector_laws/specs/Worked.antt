@@ -8,7 +8,7 @@ use Rattle.std.specs.List.{flat_map}
 use Rattle.nmgc_limits.specs.declared.mutators.TheConstants.{REGISTERS}
 use Rattle.nmgc_world_spec.specs.{declared.command.Command.Command, declared.command.Reply.Reply, declared.node.Parts.Parts, World.World, Reach.IsAlive}
 use Rattle.nmgc_object.specs.declared.layout.Nursery.{Nursery}
-use Rattle.nmgc_heap_spec.specs.Places.{Place}
+use Rattle.nmgc_heap_spec.specs.Objects.{Place}
 use Rattle.nmgc_round.specs.{View.Opening, View.Part, View.hand_of, View.hand_now, Naming.AllReply}
 use Rattle.nmgc_mutator.specs.{declared.mutator.Mutator.Mutator, Ready.IsNursery, Ready.HasHand, Ready.words_by, Records.numbers, Records.all_recorded, Records.all_weaks, Records.all_finalised}
 

@@ -49,7 +49,8 @@ pub fn a_stop_is_prepared()
 
 /// Proves that the marker's calls establish and keep the invariant of a marking cycle (`IsMarking`). It holds once the marker
 /// took the snapshot at a stop, after the marker's work in a round, and after all remembered entries were added at a stop.
-/// Requires that each call kept its contract, and that the finaliser queues have room for all weak pointers that may die.
+/// After the work all marked objects are found (`HasFound`). Requires that each call kept its contract, and that the
+/// finaliser queues have room for all weak pointers that may die.
 pub fn a_cycle_marks_after_each_call()
     ensures snapshot { SnapshotIsMarking }
     ensures round { RoundIsMarking }

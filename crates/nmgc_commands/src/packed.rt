@@ -4,7 +4,7 @@
 //! operands occur twice, once for a few operands and once for more. Code that has to distinguish commands matches on the
 //! form. For contracts a `PackedCommand` is the command itself (`specs/Packed.antt`).
 ghost use Rattle.std.specs.Prelude.{◌≡◌, ◌<◌, IfOk};
-ghost use Rattle.nmgc_world_spec.specs.{declared.command.Command.TheVariants.Con, declared.command.Command.TheVariants.Thunk, Known.IsMaking, Command.words_made};
+ghost use Rattle.nmgc_world_spec.specs.{declared.command.Command.TheVariants.Con, declared.command.Command.TheVariants.Thunk, Known.IsMaking, World.words_made};
 ghost use Rattle.nmgc_commands.specs.Packed.{command_of};
 
 use crate::operands::{FixedOperands, Held, ManyOperands, Operands};

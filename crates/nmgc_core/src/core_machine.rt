@@ -26,7 +26,7 @@
 //! Easy to get wrong: the third fact is about the snapshot's fields, so the old value is owed. A barrier on the new value
 //! would lose a target whose field was overwritten before the scan.
 ghost use Rattle.std.specs.Prelude.{◌≡◌, ◌∷◌, ◌++◌, [], false, slice_get, slice_set, IfOk, OnOk, OnErr, IsTrue, IsSome, ◌↔◌, Some, Contains, if◌then◌else◌};
-ghost use Rattle.nmgc_world_spec.specs.{declared.value.Name.Name as NameAt, Step.shared_name};
+ghost use Rattle.nmgc_world_spec.specs.{declared.value.Name.Name as NameAt, World.shared_name};
 ghost use Rattle.nmgc_graph.specs.Marks.{HasPlaces, mark_of};
 ghost use Rattle.nmgc_snapshot_laws.specs.{State.is_listed, Machine.is_pushed_in, Machine.AreEmpty};
 
@@ -103,7 +103,7 @@ impl Model for Core {
 }
 
 impl Core {
-    ghost use Rattle.nmgc_world_spec.specs.{Known.IsWorld, World.node_of, Reach.Lists, Known.CanApply, Step.step, History.finalised_by};
+    ghost use Rattle.nmgc_world_spec.specs.{Known.IsWorld, World.node_of, World.step, Reach.Lists, Reach.finalised_by, Known.CanApply};
     ghost use Rattle.nmgc_snapshot_laws.specs.{State.names_of, State.opening, State.mark_name, State.mark_value, State.mark_read, State.mark_values, State.is_new, State.unmarked, Run.IsRun, Machine.Passes, Machine.advanced};
     ghost use Rattle.nmgc_snapshot_laws.specs.declared.event.Event.TheVariants as event;
 

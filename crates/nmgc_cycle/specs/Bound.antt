@@ -8,7 +8,7 @@ use Rattle.nmgc_world_spec.specs.{World.World, declared.command.Command.Command}
 use Rattle.nmgc_journal.specs.declared.report.RoundRows.{RoundRows}
 use Rattle.nmgc_mark.specs.Beginning.{most_blocks}
 use Rattle.nmgc_object.specs.declared.layout.Layout.{Layout}
-use Rattle.nmgc_run_spec.specs.State.{plan_of, layout_of}
+use Rattle.nmgc_run_spec.specs.Run.{plan_of, layout_of}
 use Rattle.nmgc_run_laws.specs.Statements.{answered_count}
 use Rattle.nmgc_script.specs.declared.script.Script.{Script}
 use Rattle.nmgc_cycle.specs.{declared.collector.Collector.Collector, declared.progress.Progress.Progress}

@@ -1,7 +1,7 @@
 -- A full cycle at a stop: the effect of each of its parts on a collector.
 use Rattle.std.specs.Prelude.{ℕ, ◌≡◌, ◌⊎◌, List, [], map, length, Bool, true, false, ◌&&◌, nat_lt}
-use Rattle.nmgc_alloc.specs.{Reserve.free_count, Numbered.Segments, Segments.IsSegments, CycleSteps.retired}
-use Rattle.nmgc_object.specs.{Places.reserve_count, FinQueue.FinQueue}
+use Rattle.nmgc_alloc.specs.{Reserve.free_count, AllocState.Segments, Segments.IsSegments, CycleSteps.retired}
+use Rattle.nmgc_object.specs.{Words.reserve_count, FinQueue.FinQueue}
 use Rattle.nmgc_world_spec.specs.declared.value.Name.{Name}
 use Rattle.nmgc_sweep.specs.{NameTable.HaveEntries, Sweeper.AreLeft, Work.HasSwept}
 use Rattle.nmgc_weak.specs.declared.weaks.OldWeak.{OldWeak}

@@ -2,11 +2,10 @@
 use Rattle.std.specs.Prelude.{ℕ, ◌≡◌, ◌++◌, Bool, List}
 use Rattle.nmgc_alloc.specs.{AllocState.AllocState, Segments.IsSegments}
 use Rattle.nmgc_journal.specs.declared.report.CycleRow.{CycleRow}
-use Rattle.nmgc_run_spec.specs.Closing as run_closing
-use Rattle.nmgc_run_spec.specs.{Slice.has_left, State.State, State.plan_of}
-use Rattle.nmgc_run_spec.specs.Stop as run
+use Rattle.nmgc_run_spec.specs.Run.{State, has_left, plan_of}
+use Rattle.nmgc_run_spec.specs.Run as run
 use Rattle.nmgc_run_spec.specs.Terms as run_terms
-use Rattle.nmgc_script.specs.{declared.script.Script.Script, Limits.IsInLimits}
+use Rattle.nmgc_script.specs.{declared.script.Script.Script, Spelling.IsInLimits}
 use Rattle.nmgc_cycle.specs.{declared.collector.Collector.Collector, Cycles.HasClosed, Roots.queues_in, Shown.report_cycles, Shown.words_in, Steps.StandsAt, Full.CanCloseNow, Full.ClosesNow, Full.CanSweepRest, Full.HasSweptRest, Full.HasFinished, Full.with_all_retired, Full.HasDoneFull, Full.Proceeds}
 use Rattle.nmgc_cycle.specs.declared.progress.Progress.TheVariants as doing
 
@@ -17,8 +16,8 @@ StandsAtStop stop c = (script : Script) × (s : State) × IsInLimits script × (
 -- a closing in a full cycle is a closing of the run, within its bound, whatever is left to scan
 abbrev pub FinishingNowLeads : Type 0
 FinishingNowLeads = (script : Script) (old new : Collector) (s : State) → IsInLimits script → StandsAt script old s →
-    HasClosed ClosesNow s.number old new → (t : State) × run_closing.ClosesNow s.progress s t × StandsAt script new t ×
-    run_closing.IsForcedSoon script.config.quota s.progress s.number
+    HasClosed ClosesNow s.number old new → (t : State) × run.ClosesNow s.progress s t × StandsAt script new t ×
+    run.IsForcedSoon script.config.quota s.progress s.number
 
 -- a sweep of all waiting segments in the code is a sweep of them in the run
 abbrev pub SweepingRestLeads : Type 0
@@ -29,7 +28,7 @@ SweepingRestLeads = (script : Script) (old new : Collector) (s : State) → IsIn
 abbrev pub FinishLeads : Type 0
 FinishLeads = (script : Script) (old new : Collector) (s : State) → IsInLimits script → StandsAt script old s → HasFinished s.number old new →
     (t : State) × (rows : List CycleRow) × run.Finishes s t rows × (report_cycles new ≡ report_cycles old ++ rows) × StandsAt script new t ×
-    (new.cycle.progress ≡ doing.Idle) × run_closing.IsForcedSoon script.config.quota s.progress s.number
+    (new.cycle.progress ≡ doing.Idle) × run.IsForcedSoon script.config.quota s.progress s.number
 
 -- after all segments were filed, the collector represents the state of the run with all segments filed
 abbrev pub FilingLeads : Type 0
@@ -40,7 +39,7 @@ FilingLeads = (script : Script) (c : Collector) (s : State) → IsInLimits scrip
 abbrev pub FullLeads : Type 0
 FullLeads = (script : Script) (old new : Collector) (s : State) → IsInLimits script → StandsAt script old s → HasDoneFull s.number old new →
     (t : State) × (rows : List CycleRow) × run.DoesFullCycle s t rows × (report_cycles new ≡ report_cycles old ++ rows) × StandsAt script new t ×
-    run_closing.IsForcedSoon script.config.quota s.progress s.number
+    run.IsForcedSoon script.config.quota s.progress s.number
 
 -- the stop goes on as the run does: by a full cycle, by the beginning of a cycle, or by neither
 abbrev pub ProceedingLeads : Type 0

@@ -1,12 +1,12 @@
 -- The invariant of a collector, from call to call.
 use Rattle.std.specs.Prelude.{ℕ, ◌≡◌, ◌<◌, ◌≤◌, ◌⊎◌, List, [], length, slice_get, slice_index, Some, None, IsSome, vec_capacity}
-use Rattle.nmgc_world_spec.specs.{declared.command.Reply.Reply, History.Row}
+use Rattle.nmgc_world_spec.specs.{declared.command.Reply.Reply, Reach.Row}
 use Rattle.nmgc_alloc.specs.Segments.{IsSegments}
 use Rattle.nmgc_minor.specs.Promotion.{IsFor}
 use Rattle.nmgc_mutator.specs.{declared.mutator.Mutator.Mutator, Ready.IsWhole}
 use Rattle.nmgc_script.specs.declared.script.Script.{Script}
 use Rattle.nmgc_journal.specs.{declared.report.End.End, declared.report.End.TheVariants.Done, declared.report.End.TheVariants.HeapFull}
-use Rattle.nmgc_run_spec.specs.{State.State, State.Progress, State.idle, State.marking, State.sweeping, State.plan_of, State.layout_of, Run.Run, Run.Turn, Run.last_state, AfterRound.with_turn}
+use Rattle.nmgc_run_spec.specs.{Run.State, Run.Progress, Run.idle, Run.marking, Run.sweeping, Run.plan_of, Run.layout_of, Run.Run, Run.Turn, Run.last_state, AfterRound.with_turn}
 use Rattle.nmgc_stop_spec.specs.Cycle.{Cycle}
 use Rattle.nmgc_run_laws.specs.Statements.{answered_count}
 use Rattle.nmgc_collector_laws.specs.Collector.{IsNew, IsAtStop, IsAfterRound}

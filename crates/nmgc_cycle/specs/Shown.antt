@@ -8,7 +8,7 @@ use Rattle.nmgc_sweep.specs.{Seen.CycleSeen, Sweeper.Sweeper}
 pub use Rattle.nmgc_collector_laws.specs.Heaps.{seen_mutator}
 use Rattle.nmgc_mutator.specs.declared.mutator.Mutator.{Mutator}
 use Rattle.nmgc_name_lists.specs.Order.{in_order}
-use Rattle.nmgc_world_spec.specs.{Listing.AreDistinct, declared.value.Name.Name}
+use Rattle.nmgc_world_spec.specs.{Reach.AreDistinct, declared.value.Name.Name}
 use Rattle.nmgc_weak.specs.{declared.weaks.Death.Death, Weaks.names_of, Weaks.places_of}
 use Rattle.nmgc_cycle.specs.{declared.collector.Collector.Collector, declared.progress.Progress.Progress}
 use Rattle.nmgc_cycle.specs.declared.progress.Progress.TheVariants as progress

@@ -4,12 +4,12 @@
 -- represents a state of the run at that stop. Only the facts on the pace and on remembered entries differ.
 use Rattle.std.specs.Prelude.{ℕ, ◌≡◌, ◌+◌, ◌++◌, ◌≤◌, List, [], true, false}
 use Rattle.nmgc_stop_spec.specs.{Kept.IsKeptObject, Cycle.Cycle, Nurseries.AreEmpty}
-use Rattle.nmgc_run_spec.specs.{Closing.Closes, Closing.ClosesOrWaits, Terms.MayClose, Closing.MayWait, Heap.HoldsAtStop, State.State, State.marking, State.cycle_started, State.plan_of, State.layout_of, Stop.EndsOrWaits, Stop.BeginsOrWaits}
+use Rattle.nmgc_run_spec.specs.{Run.Closes, Run.ClosesOrWaits, Run.MayWait, Run.State, Run.marking, Run.cycle_started, Run.plan_of, Run.layout_of, Run.EndsOrWaits, Run.BeginsOrWaits, Terms.MayClose, Heap.HoldsAtStop}
 use Rattle.nmgc_collector_laws.specs.{Collector.Matches, Collector.AreNurseries, Collector.EachMutator, Collector.IsEmptied, Collector.HoldsInCycle, Collector.IsPacedAtStop, Collector.IsPacedAfterRound, Seen.CollectorSeen, Seen.MutatorSeen, Seen.ends_of, Seen.nurseries_of}
 use Rattle.nmgc_run_laws.specs.{Course.IsStateInCourse, Sound.IsSoundState}
-use Rattle.nmgc_world_spec.specs.Listing.{Counts}
+use Rattle.nmgc_world_spec.specs.Reach.{Counts}
 use Rattle.nmgc_journal.specs.declared.report.CycleRow.{CycleRow}
-use Rattle.nmgc_script.specs.{declared.script.Script.Script, Limits.IsInLimits}
+use Rattle.nmgc_script.specs.{declared.script.Script.Script, Spelling.IsInLimits}
 use Rattle.nmgc_sweep.specs.NameTable.{AreNamed}
 use Rattle.nmgc_cycle.specs.{declared.collector.Collector.Collector, declared.progress.Marking.Marking, declared.progress.Sweeping.Sweeping, Keeps.IsWellFormed, Keeps.Sweeps, Roots.queues_in, Shown.seen, Shown.report_cycles, Shown.words_in}
 use Rattle.nmgc_cycle.specs.declared.progress.Progress.TheVariants as doing

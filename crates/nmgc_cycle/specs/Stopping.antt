@@ -1,15 +1,15 @@
 -- The parts of a stop: its promotion, the commands left in programs, and its answer.
 use Rattle.std.specs.Prelude.{ℕ, ◌≡◌, ◌⊎◌, ◌<◌, Contains, List, [], map, length, slice_index, slice_index_or, Option, Some, None, IsSome}
 use Rattle.nmgc_world_spec.specs.{declared.value.Name.Name, declared.command.Command.Command, Known.IsWorld}
-use Rattle.nmgc_alloc.specs.{AllocState.AllocState, Stands.StandsFor, Reserve.free_count, Segments.IsSegments}
+use Rattle.nmgc_alloc.specs.{AllocState.AllocState, AllocState.StandsFor, Reserve.free_count, Segments.IsSegments}
 use Rattle.nmgc_heap_spec.specs.{Moves.Moved, Moves.settled, Roots.ListsWeaks}
 use Rattle.nmgc_weak.specs.{declared.weaks.OldWeak.OldWeak, Closes.KeepsOldWeaks, Weaks.places_of}
-use Rattle.nmgc_stop_spec.specs.{Occupied.KeepsMarks, Promoted.PlacesEach, Stopped.Stopped, Stopped.IsStopped, Stopped.IsSettled, Stopped.young_base}
+use Rattle.nmgc_stop_spec.specs.{Occupied.KeepsMarks, Cycle.PlacesEach, Stopped.Stopped, Stopped.IsStopped, Stopped.IsSettled, Stopped.young_base}
 use Rattle.nmgc_collector_laws.specs.{Joins.HaveMoved, Worked.registers_of, Worked.queues_of, Worked.nurseries_of, Worked.recorded_of, Worked.finalised_of, Worked.ListsFinalised}
 use Rattle.nmgc_journal.specs.declared.report.End.{End}
 use Rattle.nmgc_journal.specs.declared.report.End.TheVariants as end
 use Rattle.nmgc_minor.specs.{Placing.moved_of, Promotion.IsFor}
-use Rattle.nmgc_object.specs.Places.{reserve_count}
+use Rattle.nmgc_object.specs.Words.{reserve_count}
 use Rattle.nmgc_script.specs.declared.script.Script.{Script}
 use Rattle.nmgc_sweep.specs.NameTable.{HaveNoted}
 pub use Rattle.nmgc_collector_laws.specs.Worked.{weaks_of as young_weaks_of}

@@ -1,16 +1,16 @@
 -- The slices of a round: the work of a mutator with its seat, and the state after all slices.
 use Rattle.std.specs.Prelude.{ℕ, ◌≡◌, ◌||◌, Bool, true, false, ◌+◌, ◌*◌, ◌<◌, ◌≤◌, List, [], ◌++◌, length, map, drop, take, min, All, slice_get, slice_index, slice_index_or, Some, vec_capacity}
 use Rattle.std.specs.{Int.div_ceil, List.zip}
-use Rattle.nmgc_world_spec.specs.{declared.command.Command.Command, declared.command.Reply.Reply, Command.Fits}
+use Rattle.nmgc_world_spec.specs.{declared.command.Command.Command, declared.command.Reply.Reply, World.Fits}
 use Rattle.nmgc_alloc.specs.Segments.{IsSegments}
 use Rattle.nmgc_collector_laws.specs.{Owed.IsGathered, Owed.HaveOwed, Owed.gathered, RestMarking.opening_beside, Rest.opening_at, Worked.Done, Collector.IsMarking}
-use Rattle.nmgc_heap_spec.specs.Places.{Place}
+use Rattle.nmgc_heap_spec.specs.Objects.{Place}
 use Rattle.nmgc_round.specs.{declared.table.Round.Round, View.Opening, View.Scan, View.whole, Seat.RoundSeat, Seat.seen, Seating.collecting, Finishing.Leaves, Gate.passed}
 use Rattle.nmgc_mutator.specs.{declared.mutator.TheConstants.MOST_PUSHED, declared.mutator.Mutator.Mutator, declared.mutator.SliceEnd.SliceEnd, Does.SameLine, Ready.IsReady, Ready.Reserves, Slice.HasRoom, Slice.HasRun, Slice.Ended, Slice.tried}
 use Rattle.nmgc_mutator.specs.declared.mutator.SliceEnd.TheVariants as ending
 use Rattle.nmgc_updrem.specs.{Rings.HavePolled, Rings.Receiver, declared.block.TheConstants.BLOCK_ENTRIES}
 use Rattle.nmgc_script.specs.declared.script.Script.{Script}
-use Rattle.nmgc_run_spec.specs.{Run.Run, Run.last_state, AfterRound.program_of, Slice.slice_of, Terms.some_asks, Slice.is_collect, Slice.is_full, State.State, State.Progress, State.marking}
+use Rattle.nmgc_run_spec.specs.{Run.Run, Run.last_state, Run.slice_of, Run.is_collect, Run.is_full, Run.State, Run.Progress, Run.marking, AfterRound.program_of, Terms.some_asks}
 use Rattle.nmgc_cycle.specs.{declared.collector.Collector.Collector, declared.round.Lists.Lists, declared.worker.Worker.Worker, Cycles.HasHelped, Keeps.IsAfterStop, Shown.seen as collector_seen}
 
 -- the commands that a mutator has left of its program

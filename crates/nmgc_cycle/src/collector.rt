@@ -18,8 +18,8 @@ ghost use Rattle.nmgc_limits.specs.declared.mutators.TheConstants.{SHARED_SLOTS}
 ghost use Rattle.nmgc_object.specs.{declared.layout.TheConstants.SHARED_PLACE, declared.size.TheConstants.HEADER_WORDS, Layouts.IsLayout};
 ghost use Rattle.nmgc_round.specs.Empty.{IsEmptyHeap};
 ghost use Rattle.nmgc_mutator.specs.{declared.mutator.Mutator.Mutator as MutatorShown, Ready.IsNew};
-ghost use Rattle.nmgc_script.specs.{declared.script.Script.Script as ScriptSeen, Limits.FitsScript, Limits.IsInLimits};
-ghost use Rattle.nmgc_run_spec.specs.{State.plan_of, State.layout_of as planned_layout, Crowded.IsRunOf, AtStop.IsLawfulAtStop};
+ghost use Rattle.nmgc_script.specs.{declared.script.Script.Script as ScriptSeen, Spelling.FitsScript, Spelling.IsInLimits};
+ghost use Rattle.nmgc_run_spec.specs.{Run.plan_of, Run.layout_of as planned_layout, Lawful.IsRunOf, AtStop.IsLawfulAtStop};
 ghost use Rattle.nmgc_collector_laws.specs.{Seen.end_of as reported_end, Heaps.seen_mutator};
 ghost use Rattle.nmgc_cycle.specs.{Shown.report_of, Shown.turns_of, Shown.upper_turns_of, Lined.IsLined, Keeps.IsFresh, Keeps.HasEnded};
 

@@ -1,7 +1,7 @@
 //! The steps of a stop that advance a cycle: adding, closing, end and beginning.
 //!
 //! Note [The steps of a stop] in stop.rt has their order. All that takes memory here may fail, since the words are back from
-//! the round. `nmgc_run_spec`'s `specs/Closing.antt` defines when a cycle may be closed, and the closing's effect.
+//! the round. `nmgc_run_spec`'s `specs/Run.antt` defines when a cycle may be closed, and the closing's effect.
 //!
 //! A mutator's remembered entries are the entries taken out of its ring, then those in the ring, then those in its set. They
 //! go to the marker in this order. Then ring, set and list in the inbox are empty, even if no cycle marks. So at a stop the

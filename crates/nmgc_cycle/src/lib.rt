@@ -14,7 +14,7 @@
 //! A cycle begins at a stop, marks in rounds beside the mutators, is closed at a stop, sweeps beside the mutators, and ends
 //! at a stop (`progress`, `cycle`). `specs/Cycles.antt` defines the effect of each of these calls, and `specs/Steps.antt` its
 //! meaning in the run. A full cycle is done at one stop (`full`, `specs/Full.antt`, `specs/FullLaws.antt`). Each stop notes
-//! the names of moved objects for the sweeper (`name_notes`). `nmgc_script`'s `specs/Limits.antt` says which scripts may run.
+//! the names of moved objects for the sweeper (`name_notes`). `nmgc_script`'s `specs/Spelling.antt` says which scripts may run.
 //!
 //! Easy to get wrong: in a round the seats have the words, and an error would lose them. So all that can fail comes before
 //! the words are taken, or after they are back. After `NoMemory` no clause describes the collector, and no call may follow.

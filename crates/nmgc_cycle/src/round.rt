@@ -21,7 +21,7 @@ ghost use Rattle.nmgc_mutator.specs.declared.mutator.Mutator.{Mutator as Mutator
 ghost use Rattle.nmgc_run_spec.specs.AfterRound.{program_of};
 ghost use Rattle.nmgc_limits.specs.{Limits.most_slice, declared.mutators.TheConstants.MAKERS};
 ghost use Rattle.nmgc_updrem.specs.{Lines.HasMetSo, Rings.AtLine, Rings.HavePolled};
-ghost use Rattle.nmgc_script.specs.Limits.{IsInLimits};
+ghost use Rattle.nmgc_script.specs.Spelling.{IsInLimits};
 ghost use Rattle.nmgc_cycle.specs.{Lined.IsLined, Lined.HasMetSender, Lined.HaveLines, Lined.HaveMet, Lined.RememberInOrder, Keeps.HasStopped, Keeps.DidRound, Cycles.CanHelp, Cycles.HasHelped, Cycles.worked_on, Cycles.upper_worked_on, Shown.is_marking_in, Shown.turns_of, Shown.upper_turns_of};
 ghost use Rattle.nmgc_cycle.specs.Working.{left_at, HaveRoom, HasLists, HaveSliceRoom, HasInboxRoom, AreReserved, CanAllWork, HaveAllWorked, OpensAt, DidSlices, HaveTried, asks_of, asks_full_of, done_by, cleared, replies_of};
 

@@ -2,9 +2,9 @@
 use Rattle.std.specs.Prelude.{◌≡◌, ◌⊎◌, ◌≤◌, ◌+◌, ℕ, List, [], ◌∷◌, ◌++◌, All, length, map, codes, decimal, Option, Some, Result, Ok, Err}
 use Rattle.std.specs.Io.KnownBytes.{Consumes, Keeps, IsAtEnd}
 use Rattle.std.proofs.Common.{Vec, Global}
-use Rattle.nmgc_arguments.specs.{Arguments.ArePassed, Output.text_bytes}
+use Rattle.nmgc_arguments.specs.Output.{ArePassed, text_bytes}
 use Rattle.nmgc_arguments.specs.Output as shared
-use Rattle.nmgc_io.specs.{Counts.Takes, Counts.TakesUpTo, Text.lines_of}
+use Rattle.nmgc_io.specs.Text.{Takes, TakesUpTo, lines_of}
 use Rattle.nmgc_world_spec.specs.declared.value.Name.{Name}
 use Rattle.nmgc_lists.specs.declared.memory.NoMemory.{NoMemory as NoMemoryOf}
 use Rattle.nmgc_fin.specs.{declared.job.Job.Job, declared.run.TheConstants.MOST_WORKERS, declared.top.TheConstants.MAX_REPORT_BYTES, declared.top.FinStatus.FinStatus, declared.top.Output.Output, Handles.Handles, Handles.joined, Jobs.AreJobsOf, Jobs.IsFirstBad, Jobs.weak_of, Order.IsPlaced, Order.jobs_text}

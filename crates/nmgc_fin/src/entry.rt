@@ -1,6 +1,6 @@
 //! The whole program except its streams: command line in, exit number out.
 ghost use Rattle.std.specs.Prelude.{◌≡◌, ◌⊎◌};
-ghost use Rattle.nmgc_io.specs.Counts.{Rose};
+ghost use Rattle.nmgc_io.specs.Text.{Rose};
 ghost use Rattle.nmgc_fin.specs.Program.{Ran};
 
 use crate::{FinStatus, nmgc_fin};

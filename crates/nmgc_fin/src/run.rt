@@ -16,10 +16,9 @@ use crate::worker::{JobPass, JobQueue, Worker};
 use nmgc_lists::{List, NoMemory};
 use nmgc_round::Gate;
 use std::alloc::Global;
-use std::mem;
 use std::sync::Wait;
-use std::thread;
 use std::thread::Threads;
+use std::{mem, thread};
 
 /// The most workers.
 pub const MOST_WORKERS: u8 = 32;

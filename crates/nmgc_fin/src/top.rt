@@ -3,7 +3,7 @@
 //! The work goes one way: arguments, bytes, jobs, workers, text, sink. The first refusal is the output. The output is
 //! complete before the sink is used, so a sink that fails changes only the status.
 ghost use Rattle.std.specs.Prelude.{◌≡◌, ◌≤◌, ℕ, List, [], ◌∷◌, length, map, string_bytes, IfOk, IfSome, IfNone, decimal};
-ghost use Rattle.nmgc_io.specs.Counts.{Rose};
+ghost use Rattle.nmgc_io.specs.Text.{Rose};
 ghost use Rattle.nmgc_arguments.specs.Output.{text_bytes};
 ghost use Rattle.nmgc_fin.specs.{Handles.AreNumbered, Handles.Handles, declared.top.TheConstants.MAX_REPORT_BYTES, declared.top.FinStatus.FinStatus as StatusOf};
 ghost use Rattle.nmgc_fin.specs.Program.{IsCount, Asks, IsWrong, number_of, IsFixed, fixed_text, bad_text, IsMadeOf, AreDone, SaysOfBytes, Says, IsWritten, IsComplete};

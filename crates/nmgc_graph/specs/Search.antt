@@ -2,7 +2,7 @@
 --
 -- Only private contracts use these definitions. The answers of the public calls are defined by `Reach` alone.
 use Rattle.std.specs.Prelude.{◌≡◌, ◌⊎◌, ◌≤◌, List, [], ◌∷◌, ◌++◌, map, flat_map, Bool, true, false, not, ◌&&◌, Contains, IsSome, fold, Option, Some, None, option_and_then, if◌then◌else◌}
-use Rattle.nmgc_world_spec.specs.{declared.value.Name.Name, declared.value.Value.Value, declared.node.Parts.Parts, declared.node.Node.Node, declared.node.Node.TheVariants.Weak, World.World, World.node_of, declared.mutator_state.MutatorState.MutatorState, Step.shared_name}
+use Rattle.nmgc_world_spec.specs.{declared.value.Name.Name, declared.value.Value.Value, declared.node.Parts.Parts, declared.node.Node.Node, declared.node.Node.TheVariants.Weak, World.World, World.node_of, World.shared_name, declared.mutator_state.MutatorState.MutatorState}
 use Rattle.nmgc_world_spec.specs.declared.value.Value.TheVariants as value
 use Rattle.nmgc_graph.specs.{declared.search.Search.Search, Marks.mark_of, Marks.IsMarked, Marks.with_mark, Marks.unmarked_count, Marks.HasPlaces}
 use Rattle.nmgc_world_spec.specs.Reach.{strong_fields, RefersTo, IsReached, IsAlive, IsKeptBy, IsLive, IsKept}

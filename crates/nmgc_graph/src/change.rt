@@ -10,7 +10,7 @@
 //! Easy to get wrong: `write` doesn't check for refusals again, and writes a variable's field at any index. So it may be
 //! called only if the reply says that the change is done.
 ghost use Rattle.std.specs.Prelude.{◌≡◌, IfOk, OnOk, OnErr};
-ghost use Rattle.nmgc_world_spec.specs.{Change.changed, Change.field_read, Change.result_read, Change.value_read, Change.field_set, Change.field_exchanged, Change.thunk_updated, Change.stack_pushed, Change.stack_popped, Change.weak_finalised, Change.is_same, Pieces.given_or, Written.is_done, Written.written, Written.field_written, Written.result_written, Written.value_pushed, Written.top_dropped, Written.killed};
+ghost use Rattle.nmgc_world_spec.specs.{World.changed, World.field_read, World.result_read, World.value_read, World.field_set, World.field_exchanged, World.thunk_updated, World.stack_pushed, World.stack_popped, World.weak_finalised, World.is_same, Pieces.given_or, Written.is_done, Written.written, Written.field_written, Written.result_written, Written.value_pushed, Written.top_dropped, Written.killed};
 ghost use Rattle.nmgc_world_spec.specs.declared.value.Value.{Value as ValueAt};
 
 use nmgc_lists::NoMemory;

@@ -4,7 +4,7 @@
 //! reachable in no other way. The command *opens* the names in such values: they count as live from then on. The collector
 //! doesn't kill a finalised weak pointer again.
 ghost use Rattle.std.specs.Prelude.{◌≡◌, ◌<◌, length, IfOk, option_and_then};
-ghost use Rattle.nmgc_world_spec.specs.{Known.HasRegisters, Known.IsOperand, Owed.names_among, History.opened_by, History.finalised_by, Step.value_for, Step.object_of};
+ghost use Rattle.nmgc_world_spec.specs.{Known.HasRegisters, Known.IsOperand, Reach.names_among, Reach.opened_by, Reach.finalised_by, World.value_for, World.object_of};
 ghost use Rattle.nmgc_graph.specs.Search.{parts_in};
 
 use crate::World;

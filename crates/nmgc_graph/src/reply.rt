@@ -10,7 +10,7 @@ use crate::change::{change_reply, value_reply};
 use nmgc_world_spec::{Change, Command, Name, Reply, Value};
 
 impl World {
-    ghost use Rattle.nmgc_world_spec.specs.{Known.HasRegisters, Step.step, Written.asked, Written.change_asked, Step.change_object, Step.next_name, World.state_of};
+    ghost use Rattle.nmgc_world_spec.specs.{Known.HasRegisters, World.step, World.change_object, World.next_name, World.state_of, Written.asked, Written.change_asked};
 
     /// Returns the reply that `apply` would give with enough memory. Takes no memory, and constant time.
     pub fn reply(&self, mutator: u8, command: &Command) -> Reply

@@ -9,7 +9,7 @@
 //!
 //! Easy to get wrong: after `NoMemory` nothing may have changed. So all memory is taken before a register is written.
 ghost use Rattle.std.specs.Prelude.{replicate, Some, None, [], ◌≡◌, ◌-◌, ◌<◌, ◌≤◌, ◌^◌, length, map, IfOk, IfSome, IsSome, OnOk, OnErr, slice_get, option_copied, All};
-ghost use Rattle.nmgc_world_spec.specs.{World.new_mutator, Known.IsOperand, Known.IsRegister, Step.value_of, Pieces.with_new, Step.next_name, Pieces.holding, Pieces.with_finaliser, Pieces.with_nth, declared.node.Node.Node as NodeAt, Pieces.given_or, Change.changed, Change.field_read, Change.result_read, Change.value_read};
+ghost use Rattle.nmgc_world_spec.specs.{World.new_mutator, World.value_of, World.next_name, World.changed, World.field_read, World.result_read, World.value_read, Known.IsOperand, Known.IsRegister, Pieces.with_new, Pieces.holding, Pieces.with_finaliser, Pieces.with_nth, declared.node.Node.Node as NodeAt, Pieces.given_or};
 
 use crate::change::{are_same, change_in_place, read_field, read_result, read_value};
 use nmgc_limits::{MAKERS, REGISTERS, SHARED_MAKER, SHARED_SLOTS};
@@ -49,9 +49,9 @@ impl Model for World {
 }
 
 impl World {
-    ghost use Rattle.nmgc_world_spec.specs.{World.node_of, World.new_world, Known.IsKnown, Known.IsKnownReply, Known.IsKnownChange, Known.AreKnown, Known.IsNodeOf, Known.IsWorld, World.serial_of, Known.Grows};
+    ghost use Rattle.nmgc_world_spec.specs.{World.node_of, World.new_world, World.serial_of, World.step, World.value_for, World.born, World.with_register, World.keeping, World.object_of, World.change_into, World.change_object, World.next_finaliser, Known.IsKnown, Known.IsKnownReply, Known.IsKnownChange, Known.AreKnown, Known.IsNodeOf, Known.IsWorld, Known.Grows};
     ghost use Rattle.nmgc_world_spec.specs.Known.{HasRegisters};
-    ghost use Rattle.nmgc_world_spec.specs.{Step.step, Step.value_for, Pieces.values_for, Step.born, Step.with_register, Step.keeping, Step.object_of, Pieces.read_object, Written.asked, Written.change_asked, Step.change_into, Step.change_object, Pieces.change_node, Step.next_finaliser, Pieces.same_reply};
+    ghost use Rattle.nmgc_world_spec.specs.{Pieces.values_for, Pieces.read_object, Written.asked, Written.change_asked, Pieces.change_node, Pieces.same_reply};
 
     /// Makes the world of 1 to `MAKERS` mutators that have made nothing: registers and g's slots are nil, queues are empty.
     pub fn new(alloc: Global, mutators: u8) -> Result<Self, NoMemory>

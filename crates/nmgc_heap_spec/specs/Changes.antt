@@ -3,9 +3,9 @@
 -- Each definition is a law's condition on one change. A round makes the changes one by one, and a stop makes many at once.
 use Rattle.std.specs.Prelude.{ℕ, ◌≡◌, ◌≢◌, ◌+◌, ◌<◌, ◌≤◌, ◌⊎◌, List, ◌∷◌, length, slice_index, slice_get, Contains, Some, None, IsSome}
 use Rattle.nmgc_world_spec.specs.{declared.value.Name.Name, declared.value.Value.TheVariants.Ref, declared.node.Node.Node, declared.node.Node.TheVariants.Weak, World.World, World.node_of, Known.IsWorld, declared.node.Kind.Kind}
-use Rattle.nmgc_object.specs.{Words.name_word, Words.IsHeader, Words.IsName, Places.InNursery, declared.layout.Layout.Layout, declared.size.TheConstants.HEADER_WORDS, declared.size.TheConstants.NAME_OFFSET}
-use Rattle.nmgc_heap_spec.specs.Shape.{Slot, holds, unspecified, header_of, size_of, slots_of, fixed_slots, free_slots}
-use Rattle.nmgc_heap_spec.specs.{Tracked.IsTracked, Places.Place, Places.Fills, Places.HasSlots, Places.LiesWell, Places.IsBetween, Represents.IsNamed, Represents.IsObject}
+use Rattle.nmgc_object.specs.{Words.name_word, Words.IsHeader, Words.IsName, Words.InNursery, declared.layout.Layout.Layout, declared.size.TheConstants.HEADER_WORDS, declared.size.TheConstants.NAME_OFFSET}
+use Rattle.nmgc_heap_spec.specs.Objects.{Slot, holds, unspecified, header_of, size_of, slots_of, fixed_slots, free_slots, Place, Fills, HasSlots, LiesWell, IsBetween}
+use Rattle.nmgc_heap_spec.specs.{Tracked.IsTracked, Represents.IsNamed, Represents.IsObject}
 use Rattle.nmgc_world_spec.specs.declared.node.Kind.TheVariants as kind
 
 -- an earlier world, which the collector may still use: the world now has all its names, and its objects have the same headers

@@ -1,7 +1,7 @@
 -- The effect of commands and closings on the nodes and tracked names that words represent: statements of laws.
 use Rattle.std.specs.Prelude.{ℕ, ◌≡◌, ◌≢◌, ◌⊎◌, List, slice_get, Contains, Some, None, IsSome}
-use Rattle.nmgc_world_spec.specs.{declared.value.Name.Name, declared.node.Node.Node, declared.command.Command.Command, World.World, World.node_of, World.state_of, Known.IsWorld, Known.CanApply, Step.next_name, Step.step, Reach.closed}
-use Rattle.nmgc_heap_spec.specs.{Shape.Slot, Shape.slots_of, Places.Place, Places.Fills, Tracked.IsTracked, Changes.IsEarlier, Changes.AreEarlier, Changes.HaveHeaders, Changes.IsSameHeap, Changes.ChangesAt, Changes.ChangesField}
+use Rattle.nmgc_world_spec.specs.{declared.value.Name.Name, declared.node.Node.Node, declared.command.Command.Command, World.World, World.node_of, World.state_of, World.next_name, World.step, Known.IsWorld, Known.CanApply, Reach.closed}
+use Rattle.nmgc_heap_spec.specs.{Objects.Slot, Objects.slots_of, Objects.Place, Objects.Fills, Tracked.IsTracked, Changes.IsEarlier, Changes.AreEarlier, Changes.HaveHeaders, Changes.IsSameHeap, Changes.ChangesAt, Changes.ChangesField}
 
 -- a change of a world's nodes: no node changes, one field of one node changes, or there is one new node
 pub data NodeStep (w v : World) (new : Name) : Type 0 where

@@ -2,11 +2,10 @@ pub mod Changes
 pub mod Commands
 pub mod Emptied
 pub mod Moves
-pub mod Places
+pub mod Objects
 pub mod Represents
 pub mod Roots
 pub mod Samples
-pub mod Shape
 pub mod Statements
 pub mod Tracked
 pub mod Written

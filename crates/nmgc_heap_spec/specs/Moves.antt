@@ -5,7 +5,7 @@
 use Rattle.std.specs.Prelude.{ℕ, ◌≡◌, ◌+◌, ◌*◌, ◌<◌, ◌≤◌, ◌⊎◌, List, ◌++◌, length, map, slice_index, slice_get, Contains, Some, IsSome, nat_lt, filter}
 use Rattle.nmgc_world_spec.specs.{declared.value.Name.Name, declared.value.Value.TheVariants.Ref, declared.node.Node.Node, World.World, World.node_of}
 use Rattle.nmgc_object.specs.{declared.layout.Layout.Layout, declared.size.TheConstants.HEADER_WORDS, declared.size.TheConstants.NAME_OFFSET, declared.words.TheConstants.NIL_WORD, declared.words.TheConstants.ZERO_WORD}
-use Rattle.nmgc_heap_spec.specs.{Shape.holds, Shape.header_of, Shape.size_of, Shape.slots_of, Tracked.IsTracked, Places.Place, Places.LiesInSegment, Places.IsBetween, Changes.IsEarlier}
+use Rattle.nmgc_heap_spec.specs.{Objects.holds, Objects.header_of, Objects.size_of, Objects.slots_of, Objects.Place, Objects.LiesInSegment, Objects.IsBetween, Tracked.IsTracked, Changes.IsEarlier}
 
 -- a move of an object: its name, its old address and its new address
 pub record Moved : Type 0 where

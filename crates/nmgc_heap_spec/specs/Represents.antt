@@ -4,8 +4,8 @@
 -- mean nothing. Two facts on segments are no part of this: their places are the blocks in use, and objects fit their blocks.
 use Rattle.std.specs.Prelude.{ℕ, ◌≡◌, ◌+◌, ◌≤◌, ◌⊎◌, List, length, slice_index, Contains, Some, None, IsSome}
 use Rattle.nmgc_world_spec.specs.{declared.value.Name.Name, declared.node.Node.Node, declared.node.Node.TheVariants.Weak, World.World, World.node_of}
-use Rattle.nmgc_object.specs.{Words.header_word, Words.name_word, Words.IsHeader, Words.IsName, Places.InNursery, Places.word_total, declared.layout.Layout.Layout, declared.size.TheConstants.HEADER_WORDS, declared.size.TheConstants.NAME_OFFSET}
-use Rattle.nmgc_heap_spec.specs.{Shape.header_of, Shape.size_of, Shape.slots_of, Shape.fixed_slots, Shape.free_slots, Places.Place, Places.HasSlots, Places.LiesWell, Places.HasZeros, Tracked.IsTracked}
+use Rattle.nmgc_object.specs.{Words.header_word, Words.name_word, Words.IsHeader, Words.IsName, Words.InNursery, Words.word_total, declared.layout.Layout.Layout, declared.size.TheConstants.HEADER_WORDS, declared.size.TheConstants.NAME_OFFSET}
+use Rattle.nmgc_heap_spec.specs.{Objects.header_of, Objects.size_of, Objects.slots_of, Objects.fixed_slots, Objects.free_slots, Objects.Place, Objects.HasSlots, Objects.LiesWell, Objects.HasZeros, Tracked.IsTracked}
 
 -- a place in use: its name word is the word of a name of the world, and header and name lie where an object may. This holds
 -- for every place, tracked or not (more than is needed for an untracked place)

@@ -2,8 +2,8 @@
 use Rattle.std.specs.Prelude.{ℕ, ◌≡◌, ◌*◌, ◌<◌, List, length, map, slice_get, Contains, Some}
 use Rattle.nmgc_limits.specs.declared.mutators.TheConstants.{REGISTERS}
 use Rattle.nmgc_world_spec.specs.{World.World, World.state_of, World.serial_of, Reach.IsAliveWeak, Reach.IsInOrder}
-use Rattle.nmgc_object.specs.{Places.InSegment, declared.layout.Layout.Layout}
-use Rattle.nmgc_heap_spec.specs.Places.{Place, AllMean, ListMeans}
+use Rattle.nmgc_object.specs.{Words.InSegment, declared.layout.Layout.Layout}
+use Rattle.nmgc_heap_spec.specs.Objects.{Place, AllMean, ListMeans}
 
 -- words represent the roots: all registers in one list, `REGISTERS` for each mutator, finaliser queues and next serials
 pub record RepresentsRoots (places : List Place) (w : World) (registers : List ℕ) (queues : List (List ℕ)) (serials : List ℕ) : Type 0 where

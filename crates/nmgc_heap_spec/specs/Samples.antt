@@ -3,9 +3,9 @@
 -- word 0, the words between g and the first segment, and the last word of a block that its object doesn't fill.
 use Rattle.std.specs.Prelude.{ℕ, zero, suc, ◌≡◌, ◌≢◌, ◌+◌, ◌-◌, ◌*◌, List, [], ◌∷◌, ◌++◌, length, map, replicate, slice_index, Contains}
 use Rattle.nmgc_limits.specs.declared.mutators.TheConstants.{REGISTERS, SHARED_MAKER, SHARED_SLOTS}
-use Rattle.nmgc_world_spec.specs.{declared.value.Name.Name, declared.node.Node.Node, declared.command.Command.Command, declared.command.Command.TheVariants.Num, declared.command.Command.TheVariants.Nil, declared.command.Command.TheVariants.Con, declared.command.Command.TheVariants.Var, declared.command.Command.TheVariants.Collect, declared.command.Operand.TheVariants.Register, World.World, World.new_world, Step.step}
+use Rattle.nmgc_world_spec.specs.{declared.value.Name.Name, declared.node.Node.Node, declared.command.Command.Command, declared.command.Command.TheVariants.Num, declared.command.Command.TheVariants.Nil, declared.command.Command.TheVariants.Con, declared.command.Command.TheVariants.Var, declared.command.Command.TheVariants.Collect, declared.command.Operand.TheVariants.Register, World.World, World.new_world, World.step}
 use Rattle.nmgc_object.specs.{declared.layout.Layout.Layout, declared.words.TheConstants.SERIAL_UNIT, declared.layout.TheConstants.FIRST_PLACE}
-use Rattle.nmgc_heap_spec.specs.{Places.Place, Places.shared_place, Represents.NoNode, Represents.Represents, Roots.RepresentsRoots}
+use Rattle.nmgc_heap_spec.specs.{Objects.Place, Objects.shared_place, Represents.NoNode, Represents.Represents, Roots.RepresentsRoots}
 
 -- the layout of this small heap
 abbrev pub small_layout : Layout

@@ -1,11 +1,11 @@
 -- The laws on words that represent a world, as statements. The functions of `laws` prove them.
 use Rattle.std.specs.Prelude.{ℕ, ◌≡◌, ◌≢◌, ◌⊎◌, ◌+◌, List, [], map, set, slice_index, slice_get, Contains, Some}
-use Rattle.nmgc_world_spec.specs.{declared.value.Name.Name, declared.value.Value.Value, declared.node.Node.Node, declared.change.Change.Change, World.World, World.node_of, Known.IsWorld, Known.IsSized, Change.changed, Wide.IsWide}
+use Rattle.nmgc_world_spec.specs.{declared.value.Name.Name, declared.value.Value.Value, declared.node.Node.Node, declared.change.Change.Change, World.World, World.node_of, World.changed, Known.IsWorld, Known.IsSized, Reach.IsWide}
 use Rattle.nmgc_world_spec.specs.declared.value.Value.TheVariants as value
-use Rattle.nmgc_object.specs.{Words.header_word, Fields.field_word, Fields.IsField, Layouts.IsLayout, Places.InNursery, Places.nursery_place, declared.words.Field.Field, declared.layout.Layout.Layout, declared.size.TheConstants.HEADER_WORDS, declared.size.TheConstants.NAME_OFFSET}
+use Rattle.nmgc_object.specs.{Words.header_word, Words.InNursery, Words.nursery_place, Fields.field_word, Fields.IsField, Layouts.IsLayout, declared.words.Field.Field, declared.layout.Layout.Layout, declared.size.TheConstants.HEADER_WORDS, declared.size.TheConstants.NAME_OFFSET}
 use Rattle.nmgc_object.specs.declared.words.Field.TheVariants as field
 use Rattle.nmgc_world_laws.specs.Limits.{IsSmall}
-use Rattle.nmgc_heap_spec.specs.{Shape.Slot, Shape.unspecified, Shape.header_of, Shape.slots_of, Tracked.IsTracked, Places.Place, Places.Means, Represents.NoNode, Represents.Represents, Roots.RepresentsRoots, Roots.ListsWeaks, Moves.Moved, Moves.Moves, Moves.StillSpoken, Moves.settled}
+use Rattle.nmgc_heap_spec.specs.{Objects.Slot, Objects.unspecified, Objects.header_of, Objects.slots_of, Objects.Place, Objects.Means, Tracked.IsTracked, Represents.NoNode, Represents.Represents, Roots.RepresentsRoots, Roots.ListsWeaks, Moves.Moved, Moves.Moves, Moves.StillSpoken, Moves.settled}
 use Rattle.nmgc_heap_spec.specs.Changes.{AreEarlier, HaveHeaders, IsSameHeap, Remembers, AgreeWhereKnown, IsUnborn, ChangesAt, ChangesField, IsBorn, DropsPlaces, AddsPlaces}
 
 -- a name has one place

@@ -4,7 +4,7 @@
 -- the mutators have dropped since the snapshot, and a promotion reads fields of objects that they have dropped in the round.
 -- So a name is tracked if the world reaches it, or an earlier world that the collector still uses.
 use Rattle.std.specs.Prelude.{List, ◌∷◌, Contains}
-use Rattle.nmgc_world_spec.specs.{declared.value.Name.Name, World.World, Reach.IsReached, Wide.IsWide}
+use Rattle.nmgc_world_spec.specs.{declared.value.Name.Name, World.World, Reach.IsReached, Reach.IsWide}
 
 -- the wide reach of one of the worlds
 abbrev pub IsWideIn : List World → Name → Type 0

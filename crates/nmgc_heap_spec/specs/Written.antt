@@ -1,9 +1,9 @@
 -- The words of a node, by its shape and by the parts of an object: statements of laws.
 use Rattle.std.specs.Prelude.{ℕ, ◌≡◌, ◌≢◌, ◌≤◌, List, slice_index, slice_get, Contains, Some}
-use Rattle.nmgc_world_spec.specs.{declared.value.Name.Name, declared.node.Node.Node, World.World, World.node_of, Known.IsWorld, Step.shared_name}
+use Rattle.nmgc_world_spec.specs.{declared.value.Name.Name, declared.node.Node.Node, World.World, World.node_of, World.shared_name, Known.IsWorld}
 use Rattle.nmgc_world_laws.specs.{Shape.kind_of, Shape.tag_of, Shape.part_count, Shape.words_of, Limits.IsNodeWithin, Limits.IsWithin}
-use Rattle.nmgc_object.specs.{Fields.header_place, Size.name_place, Fields.field_place, Fields.object_size, Layouts.IsSegmentSize, Words.header_word, Words.name_word, Words.IsHeader, declared.layout.Layout.Layout}
-use Rattle.nmgc_heap_spec.specs.{Shape.Slot, Shape.header_of, Shape.size_of, Shape.slots_of, Tracked.IsTracked, Places.Place, Places.Fills, Places.LiesWell, Represents.Represents}
+use Rattle.nmgc_object.specs.{Fields.header_place, Words.name_place, Words.header_word, Words.name_word, Words.IsHeader, Fields.field_place, Fields.object_size, Layouts.IsSegmentSize, declared.layout.Layout.Layout}
+use Rattle.nmgc_heap_spec.specs.{Objects.Slot, Objects.header_of, Objects.size_of, Objects.slots_of, Objects.Place, Objects.Fills, Objects.LiesWell, Tracked.IsTracked, Represents.Represents}
 
 -- the header of a node is its shape, and its object has the number of words that header and shape give
 abbrev pub HeaderIsShape : Type 0

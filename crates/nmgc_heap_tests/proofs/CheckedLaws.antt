@@ -2,8 +2,8 @@
 use Rattle.std.proofs.{Common.◌≡◌, Common.◌≢◌, Common.◌<◌, Common.◌≤◌, Common.◌+◌, Common.◌-◌, Common.◌*◌, Common.◌⊎◌, Common.ℕ, Common.List, Common.length, Common.inl, Common.inr, Common.refl, Common.sym, Common.ap, Common.subst, Common.◌∙◌, Common.arith, Common.Bool, Common.true, Common.false, Common.eqb, Math.Nat.mul-le-mul_right, Math.ListN.get_or-eq_default, lemmas.Bool.cases_eq, lemmas.Bool.cases_lt, lemmas.Bool.cases_order}
 use Rattle.std.specs.Prelude.{slice_index}
 use Rattle.nmgc_world_spec.specs.{declared.node.Kind.Kind, declared.node.Kind.TheVariants.Con, declared.node.Kind.TheVariants.Var, declared.node.Kind.TheVariants.Arr, declared.node.Kind.TheVariants.Thunk, declared.node.Kind.TheVariants.Weak, declared.node.Kind.TheVariants.Stack}
-use Rattle.nmgc_object.specs.{Words.header_word, Words.HasFields, Places.nursery_place, declared.layout.Layout.Layout, declared.layout.Nursery.Nursery, declared.words.Header.Header, declared.layout.TheConstants.SHARED_PLACE, declared.layout.TheConstants.FIRST_PLACE, declared.size.TheConstants.HEADER_WORDS}
-use Rattle.nmgc_alloc.specs.{Numbered.Segments, Segments.IsSegments, Reserve.KeepsReserve, laws.Placing.step}
+use Rattle.nmgc_object.specs.{Words.header_word, Words.HasFields, Words.nursery_place, declared.layout.Layout.Layout, declared.layout.Nursery.Nursery, declared.words.Header.Header, declared.layout.TheConstants.SHARED_PLACE, declared.layout.TheConstants.FIRST_PLACE, declared.size.TheConstants.HEADER_WORDS}
+use Rattle.nmgc_alloc.specs.{AllocState.Segments, Segments.IsSegments, Reserve.KeepsReserve, laws.Placing.step}
 use Rattle.nmgc_heap_spec.specs.laws.Headers.{same_header}
 use Rattle.nmgc_stop_spec.specs.{Nurseries.AreEmpty, Nurseries.nursery_at, Strong.HasStrong, Strong.strong_part, Strong.HasHeader}
 use Rattle.nmgc_minor.specs.{declared.young.Young.Young, Inputs.Inputs, Found.IsStart, Found.IsFound, Young.IsWithin, Placing.AreNurseries, Placing.CanPlaceEach, Placing.IsMarked, Promotes.CanPromoteWith}

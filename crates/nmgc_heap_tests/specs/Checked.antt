@@ -3,7 +3,7 @@
 -- The sizes give for each word of the nurseries the number of words of the object that begins there, or 0.
 use Rattle.std.specs.Prelude.{ℕ, ◌≡◌, ◌≢◌, ◌+◌, ◌-◌, ◌*◌, ◌<◌, ◌≤◌, List, [], length, slice_index, Contains}
 use Rattle.nmgc_world_spec.specs.declared.value.Name.{Name}
-use Rattle.nmgc_object.specs.{Words.header_word, Words.name_word, Words.IsHeader, Words.IsName, Places.nursery_place, declared.layout.Layout.Layout, declared.layout.Nursery.Nursery, declared.words.Header.Header, declared.size.TheConstants.HEADER_WORDS, declared.words.Address.Address}
+use Rattle.nmgc_object.specs.{Words.header_word, Words.name_word, Words.IsHeader, Words.IsName, Words.nursery_place, declared.layout.Layout.Layout, declared.layout.Nursery.Nursery, declared.words.Header.Header, declared.size.TheConstants.HEADER_WORDS, declared.words.Address.Address}
 use Rattle.nmgc_stop_spec.specs.{Nurseries.nursery_at, Samples.young_registers}
 use Rattle.nmgc_minor.specs.Inputs.{Inputs}
 use Rattle.nmgc_mutator.specs.declared.mutator.Mutator.{Mutator}

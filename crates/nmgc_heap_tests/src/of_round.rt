@@ -1,7 +1,7 @@
 //! Rounds from the empty heap, with at most one mutator for each slot of g, in threads of their own.
 ghost use Rattle.std.specs.Prelude.{◌≡◌, ◌<◌, ◌≤◌, ℕ, [], All, IfOk, length, map, vec_capacity, slice_index_or};
 ghost use Rattle.nmgc_limits.specs.declared.mutators.TheConstants.{SHARED_SLOTS};
-ghost use Rattle.nmgc_object.specs.{Layouts.IsLayout, Places.word_total};
+ghost use Rattle.nmgc_object.specs.{Layouts.IsLayout, Words.word_total};
 ghost use Rattle.nmgc_round.specs.{Seat.RoundSeat, Seat.IsAt, Seat.seen, Seat.word_count, Seat.opening_of, Seating.alone, Seating.alones, Empty.IsEmptyHeap, Empty.first_opening, Ready.HasPart};
 
 use nmgc_commands::{Form, PackedCommand};

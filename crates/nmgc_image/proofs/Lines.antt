@@ -2,10 +2,10 @@
 use Rattle.std.proofs.{Common.◌≡◌, Common.◌≢◌, Common.◌≤◌, Common.◌<◌, Common.◌+◌, Common.◌-◌, Common.◌^◌, Common.◌⊎◌, Common.ℕ, Common.List, Common.[], Common.◌∷◌, Common.◌++◌, Common.map, Common.length, Common.replicate, Common.refl, Common.sym, Common.ap, Common.subst, Common.◌∙◌, Common.arith, Common.inl, Common.inr, Common.Bool, Common.true, Common.false, Common.cond, Common.not, Common.codes, Common.eqb, Common.ltb, Common.Option, Common.Some, Common.None, Common.append_assoc, lemmas.Bool.ltb-true, lemmas.Bool.eqb-true, lemmas.Bool.eq-eqb, lemmas.Bool.ne_eqb, lemmas.Bool.and_parts, lemmas.Bool.or_cases, lemmas.Bool.cases_Bool, lemmas.Bool.cases_lt, lemmas.Bool.false≢true, lemmas.Bool.both_ways, lemmas.List.append-nil, lemmas.List.length-append, lemmas.List.length_push, lemmas.List.length-replicate, lemmas.List.map_push, lemmas.List.nil_from_length, lemmas.Option.same_Some, lemmas.Slice.Eq.bytes_eq-Decides, lemmas.List.Elements.All-push, lemmas.List.Elements.All-nil, lemmas.List.Elements.All-head, lemmas.List.Elements.All-append, lemmas.List.Elements.All-replicate, lemmas.List.Elements.All-from_recursion}
 use Rattle.std.specs.{Prelude.◌&&◌, Prelude.All, Prelude.slice_get, List.AllByRecursion, List.list_all, Option.option_to_list, Str.bytes_eq}
 use Rattle.nmgc_limits.specs.declared.mutators.TheConstants.{REGISTERS, MAKERS, SHARED_MAKER, SHARED_SLOTS}
-use Rattle.nmgc_world_spec.specs.{declared.value.Name.Name, declared.value.Value.Value, declared.value.Value.TheVariants.Nil, declared.value.Value.TheVariants.Number, declared.value.Value.TheVariants.Ref, declared.node.Node.Node, declared.node.Node.TheVariants.Con, declared.node.Node.TheVariants.Var, declared.node.Node.TheVariants.Arr, declared.node.Node.TheVariants.Thunk, declared.node.Node.TheVariants.Weak, declared.node.Node.TheVariants.Stack, Change.is_same_name, Step.shared_name, Reach.IsBefore, Reach.IsInOrder, World.held_by, World.IsShared, laws.Orders.same_name}
+use Rattle.nmgc_world_spec.specs.{declared.value.Name.Name, declared.value.Value.Value, declared.value.Value.TheVariants.Nil, declared.value.Value.TheVariants.Number, declared.value.Value.TheVariants.Ref, declared.node.Node.Node, declared.node.Node.TheVariants.Con, declared.node.Node.TheVariants.Var, declared.node.Node.TheVariants.Arr, declared.node.Node.TheVariants.Thunk, declared.node.Node.TheVariants.Weak, declared.node.Node.TheVariants.Stack, World.is_same_name, World.shared_name, World.held_by, World.IsShared, Reach.IsBefore, Reach.IsInOrder, laws.Orders.same_name}
 use Rattle.nmgc_journal.specs.{Text.IsValue, Reading.number_at, Reading.value_at, laws.Reading.bind_some, laws.Reading.guard_some, laws.Reading.number_takes, laws.Reading.value_reads}
 use Rattle.nmgc_lists.specs.{laws.Truths.chosen, laws.Truths.unmarked, laws.Items.all_front, laws.Items.all_back}
-use Rattle.nmgc_image.specs.{declared.image.Held.Held, declared.image.ImageMutator.ImageMutator, declared.image.Entry.Entry, declared.image.Image.Image, declared.reader.Reader.Reader, Image.AreInOrder, Image.IsHeld, Image.IsMutator, Image.IsOwned, Image.IsEntry, Image.names_of, Image.values_of, Image.IsOrderly, Printing.first_words, Spelling.mutator_words, Spelling.register_words, Spelling.queue_words, Spelling.entry_words, Printing.own_lines, Spelling.mutator_lines, Printing.last_words, Spelling.image_lines, Reading.is_declared, Reading.begun, Reading.is_open, Reading.is_full, Reading.first_at, Reading.new_own, Reading.mutator_at, Reading.is_above, Reading.is_nil, Reading.with_register, Reading.with_entry, Reading.register_at, Reading.queue_at, Reading.is_before, Reading.is_after, Reading.is_shared, Reading.is_below, Reading.is_owned, Reading.can_follow, Reading.entry_at, Reading.next_at, Reading.end_at, Reading.line_at, Reading.start, Reading.image_of, Reading.run}
+use Rattle.nmgc_image.specs.{declared.image.Held.Held, declared.image.ImageMutator.ImageMutator, declared.image.Entry.Entry, declared.image.Image.Image, declared.reader.Reader.Reader, Image.AreInOrder, Image.IsHeld, Image.IsMutator, Image.IsOwned, Image.IsEntry, Image.names_of, Image.values_of, Image.IsOrderly, Image.mutator_words, Image.register_words, Image.queue_words, Image.entry_words, Image.mutator_lines, Image.image_lines, Printing.first_words, Printing.own_lines, Printing.last_words, Reading.is_declared, Reading.begun, Reading.is_open, Reading.is_full, Reading.first_at, Reading.new_own, Reading.mutator_at, Reading.is_above, Reading.is_nil, Reading.with_register, Reading.with_entry, Reading.register_at, Reading.queue_at, Reading.is_before, Reading.is_after, Reading.is_shared, Reading.is_below, Reading.is_owned, Reading.can_follow, Reading.entry_at, Reading.next_at, Reading.end_at, Reading.line_at, Reading.start, Reading.image_of, Reading.run}
 use Rattle.nmgc_image.proofs.{NodeLaws.entry_takes, Machine.IsIn}
 
 -- every mutator has begun

@@ -2,15 +2,15 @@
 use Rattle.std.proofs.{Common.ℕ, Common.◌≡◌, Common.◌≢◌, Common.◌⊎◌, Common.◌↔◌, Common.◌+◌, Common.◌*◌, Common.◌<◌, Common.◌≤◌, Common.zero, Common.suc, Common.List, Common.[], Common.◌∷◌, Common.◌++◌, Common.length, Common.map, Common.slice_index, Common.arith, Common.refl, Common.sym, Common.ap, Common.subst, Common.◌∙◌, Common.Some, Common.inl, Common.inr, Math.ListN.get_or-eq_default, lemmas.Bool.cases_lt, lemmas.Option.slice_get_within, lemmas.List.length-map, lemmas.List.get_or_append_left, lemmas.List.get_or-append-add, lemmas.List.Elements.All-contains, lemmas.List.Elements.All-tail, lemmas.List.Elements.Contains-append_left, lemmas.List.Elements.Contains-append_right, lemmas.List.Elements.Contains-append_cases}
 use Rattle.std.specs.Prelude.{Contains, All, slice_get, flat_map}
 use Rattle.nmgc_limits.specs.declared.mutators.TheConstants.{REGISTERS, SHARED_MAKER}
-use Rattle.nmgc_world_spec.specs.{declared.value.Name.Name, declared.value.Value.Value, declared.node.Parts.Parts, declared.node.Node.Node, declared.node.Node.TheVariants.Weak, declared.mutator_state.MutatorState.MutatorState, Step.shared_name, World.World, Known.IsNodeOf, Known.IsSized, World.IsShared, World.node_of, World.state_of, World.no_mutator, World.held_by, Reach.start, Reach.field, Reach.IsRoot, Reach.IsAlive, Reach.IsAliveWeak, Wide.IsWide, Pieces.IsWideRoot, Wide.IsOfWeak}
+use Rattle.nmgc_world_spec.specs.{declared.value.Name.Name, declared.value.Value.Value, declared.node.Parts.Parts, declared.node.Node.Node, declared.node.Node.TheVariants.Weak, declared.mutator_state.MutatorState.MutatorState, World.shared_name, World.World, World.IsShared, World.node_of, World.state_of, World.no_mutator, World.held_by, Known.IsNodeOf, Known.IsSized, Reach.start, Reach.field, Reach.IsRoot, Reach.IsAlive, Reach.IsAliveWeak, Reach.IsWide, Reach.IsOfWeak, Pieces.IsWideRoot}
 use Rattle.nmgc_world_spec.specs.declared.value.Value.TheVariants as value
 use Rattle.nmgc_lists.specs.laws.Items.{at_some, is_some_of, is_some_get, contains_at, place_of, nothing_in, item_map}
 use Rattle.nmgc_world_laws.specs.laws.Reached.{wide_known}
-use Rattle.nmgc_object.specs.{Places.InSegment, Size.block_size, Words.header_word, Words.IsHeader, Words.IsName, declared.words.Header.Header, declared.layout.TheConstants.SHARED_PLACE, declared.size.TheConstants.HEADER_WORDS}
-use Rattle.nmgc_alloc.specs.Numbered.{nth}
-use Rattle.nmgc_heap_spec.specs.{Shape.header_of, Shape.size_of, Places.Place, Places.Means, Places.ListMeans, Represents.NoNode, laws.Changes.lies_within, laws.Headers.same_header, laws.Kinds.HasFields, laws.Kinds.fields_of_slots, laws.Kinds.map_item, laws.Meanings.above_zero, laws.Meanings.placed_at, laws.Roots.wide_tracked, laws.Tracking.reached_in, laws.Common.list_means}
+use Rattle.nmgc_object.specs.{Words.InSegment, Words.block_size, Words.header_word, Words.IsHeader, Words.IsName, declared.words.Header.Header, declared.layout.TheConstants.SHARED_PLACE, declared.size.TheConstants.HEADER_WORDS}
+use Rattle.nmgc_alloc.specs.AllocState.{nth}
+use Rattle.nmgc_heap_spec.specs.{Objects.header_of, Objects.size_of, Objects.Place, Objects.Means, Objects.ListMeans, Represents.NoNode, laws.Changes.lies_within, laws.Headers.same_header, laws.Kinds.HasFields, laws.Kinds.fields_of_slots, laws.Kinds.map_item, laws.Meanings.above_zero, laws.Meanings.placed_at, laws.Roots.wide_tracked, laws.Tracking.reached_in, laws.Common.list_means}
 use Rattle.nmgc_journal.specs.{declared.report.MutatorEnd.MutatorEnd, declared.report.Report.Report}
-use Rattle.nmgc_image.specs.{declared.image.Entry.Entry, declared.image.Image.Image, declared.image.ImageMutator.ImageMutator, Image.names_of, Left.IsLeftAs, Left.LiesWideAt, Objects.IsNamedAt, Objects.IsObjectAt, Objects.name_in, Objects.pointers, Objects.value_words_at, Objects.node_read, Reaching.Reaches, Reaching.IsMutatorRoot, Reaching.IsWeakRoot, Reaching.IsRootPlace, Reaching.IsReadyFor, Shown.IsReadableObject, Shown.CanShowOwn, Shown.ShowsOwn, Shown.IsShownAt, Shown.ListsObjects, Shows.shown, Shows.Shows, Shows.ShowsMutator, Shows.ListsHeld}
+use Rattle.nmgc_image.specs.{declared.image.Entry.Entry, declared.image.Image.Image, declared.image.ImageMutator.ImageMutator, Image.names_of, Image.shown, Image.Shows, Image.ShowsMutator, Image.ListsHeld, Left.IsLeftAs, Left.LiesWideAt, Objects.IsNamedAt, Objects.IsObjectAt, Objects.name_in, Objects.pointers, Objects.value_words_at, Objects.node_read, Reaching.Reaches, Reaching.IsMutatorRoot, Reaching.IsWeakRoot, Reaching.IsRootPlace, Reaching.IsReadyFor, Shown.IsReadableObject, Shown.CanShowOwn, Shown.ShowsOwn, Shown.IsShownAt, Shown.ListsObjects}
 use Rattle.nmgc_image.proofs.{ShownImage.all_items, ShownImage.wide_field, ShownImage.strong_shown, ShownImage.name_place, Words.name_reads, Words.list_read, Words.list_readable, Words.list_pointers, Words.pointers_list, Words.value_words_mean, Words.node_reads}
 
 -- the registers of a mutator among the registers of all mutators

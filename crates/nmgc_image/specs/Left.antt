@@ -1,13 +1,13 @@
 -- The heap of a report represents a world.
 use Rattle.std.specs.Prelude.{◌≡◌, ℕ, ◌+◌, ◌<◌, ◌≤◌, List, length, map, flat_map, Contains, All}
 use Rattle.nmgc_limits.specs.declared.mutators.TheConstants.{REGISTERS}
-use Rattle.nmgc_world_spec.specs.{declared.value.Name.Name, World.World, Known.IsWorld, Wide.IsWide}
+use Rattle.nmgc_world_spec.specs.{declared.value.Name.Name, World.World, Known.IsWorld, Reach.IsWide}
 use Rattle.nmgc_world_laws.specs.Limits.{IsWithin}
-use Rattle.nmgc_object.specs.{Layouts.IsLayout, Places.nursery_place, declared.layout.Layout.Layout, declared.size.TheConstants.HEADER_WORDS, declared.words.TheConstants.MAX_FIELDS}
-use Rattle.nmgc_heap_spec.specs.{Places.Place, Represents.Represents, Represents.NoNode, Roots.RepresentsRoots, Roots.ListsWeaks}
+use Rattle.nmgc_object.specs.{Layouts.IsLayout, Words.nursery_place, declared.layout.Layout.Layout, declared.size.TheConstants.HEADER_WORDS, declared.words.TheConstants.MAX_FIELDS}
+use Rattle.nmgc_heap_spec.specs.{Objects.Place, Represents.Represents, Represents.NoNode, Roots.RepresentsRoots, Roots.ListsWeaks}
 use Rattle.nmgc_stop_spec.specs.Occupied.{AreBlocks}
 use Rattle.nmgc_journal.specs.{declared.report.MutatorEnd.MutatorEnd, declared.report.Report.Report}
-use Rattle.nmgc_image.specs.{declared.image.Image.Image, Image.IsImage, Shows.Shows}
+use Rattle.nmgc_image.specs.{declared.image.Image.Image, Image.IsImage, Image.Shows}
 
 -- the most words of a segment for which the header of each object can be written
 abbrev pub most_object_words : ℕ

@@ -1,4 +1,3 @@
-pub mod Faults
 pub mod Image
 pub mod Known
 pub mod Left
@@ -10,7 +9,4 @@ pub mod Reaching
 pub mod Reading
 pub mod Results
 pub mod Shown
-pub mod Shows
-pub mod Spelling
-pub mod Text
 pub mod laws

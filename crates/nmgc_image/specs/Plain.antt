@@ -3,7 +3,7 @@ use Rattle.std.specs.Prelude.{◌≡◌, ℕ, List, ◌∷◌, ◌++◌, All}
 use Rattle.nmgc_world_spec.specs.{declared.node.Node.Node, World.held_by}
 use Rattle.nmgc_journal.specs.Text.{IsValue}
 use Rattle.nmgc_io.specs.{Spaced.after_spaces, Text.spaced}
-use Rattle.nmgc_image.specs.{declared.image.Entry.Entry, Image.IsNode, Faults.IsWritable, Spelling.node_words, Spelling.entry_words}
+use Rattle.nmgc_image.specs.{declared.image.Entry.Entry, Image.IsNode, Image.IsWritable, Image.node_words, Image.entry_words}
 
 -- a text begins with the node line of an object, followed by this rest
 pub record IsPlain (bytes : List ℕ) (entry : Entry) (rest : List ℕ) : Type 0 where

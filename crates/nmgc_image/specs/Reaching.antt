@@ -2,7 +2,7 @@
 use Rattle.std.specs.Prelude.{◌≡◌, ◌⊎◌, ℕ, ◌+◌, ◌^◌, ◌<◌, List, ◌++◌, length, Some, true, not, count_by, slice_get, Contains, All}
 use Rattle.nmgc_object.specs.{declared.layout.TheConstants.SHARED_PLACE, Words.IsName}
 use Rattle.nmgc_segment.specs.Segment.{InUse}
-use Rattle.nmgc_alloc.specs.{Numbered.nth, Segments.IsBlockAt}
+use Rattle.nmgc_alloc.specs.{AllocState.nth, Segments.IsBlockAt}
 use Rattle.nmgc_journal.specs.{declared.report.MutatorEnd.MutatorEnd, declared.report.Report.Report}
 use Rattle.nmgc_image.specs.{declared.search.Search.Search, Objects.IsNamedAt, Objects.IsObjectAt, Objects.pointers, Objects.value_words_at, Objects.name_in}
 

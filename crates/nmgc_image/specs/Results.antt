@@ -1,6 +1,6 @@
 -- The results of reading and of printing an image: a fault, the one image, a spelling within a limit.
 use Rattle.std.specs.Prelude.{◌≡◌, ℕ, ◌≤◌, List, length}
-use Rattle.nmgc_image.specs.{declared.image.Image.Image, declared.fault.ImageFault.ImageFault, Spelling.Spells, Faults.IsFirstBad}
+use Rattle.nmgc_image.specs.{declared.image.Image.Image, declared.fault.ImageFault.ImageFault, Image.Spells, Image.IsFirstBad}
 use Rattle.nmgc_image.specs.declared.fault.ImageFault.TheVariants as fault
 
 -- the fault of bytes that spell no image: the first bad line, or lack of memory

@@ -3,7 +3,7 @@ use Rattle.std.specs.Prelude.{◌≡◌, ℕ, List, length, map, All, Contains}
 use Rattle.nmgc_limits.specs.declared.mutators.TheConstants.{REGISTERS}
 use Rattle.nmgc_world_spec.specs.Reach.{IsInOrder}
 use Rattle.nmgc_journal.specs.declared.report.MutatorEnd.{MutatorEnd}
-use Rattle.nmgc_image.specs.{declared.image.Entry.Entry, declared.image.ImageMutator.ImageMutator, declared.heap_image.Keyed.Keyed, Image.names_of, Objects.IsObjectAt, Objects.IsReadable, Objects.name_in, Objects.value_in, Objects.value_words_at, Objects.node_read, Reading.key_of, Shows.ListsHeld}
+use Rattle.nmgc_image.specs.{declared.image.Entry.Entry, declared.image.ImageMutator.ImageMutator, declared.heap_image.Keyed.Keyed, Image.names_of, Image.ListsHeld, Objects.IsObjectAt, Objects.IsReadable, Objects.name_in, Objects.value_in, Objects.value_words_at, Objects.node_read, Reading.key_of}
 
 -- an object can be read whole: its header, its words and its values
 pub record IsReadableObject (words : List ℕ) (at : ℕ) : Type 0 where

@@ -4,7 +4,7 @@
 //! the objects read, and of the node lines after them, are collected as sorted numbers.
 ghost use Rattle.std.specs.Prelude.{◌≡◌, ◌↔◌, ◌++◌, [], true, All, Contains, IfOk, IsTrue, OnOk, map};
 ghost use Rattle.nmgc_object.specs.Words.{IsName};
-ghost use Rattle.nmgc_image.specs.{Names.IsTestOf, Reading.has_key, Reading.key_of, Reading.keys_beside, Reading.keys_in, Reading.keys_of as all_keys, Reading.HaveSame, Text.cut};
+ghost use Rattle.nmgc_image.specs.{Names.IsTestOf, Reading.has_key, Reading.key_of, Reading.keys_beside, Reading.keys_in, Reading.keys_of as all_keys, Reading.HaveSame, Image.cut};
 ghost use Rattle.std.specs.List.Sorted.{IsNonDecreasing};
 
 use crate::LineFault;

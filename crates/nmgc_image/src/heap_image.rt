@@ -5,7 +5,7 @@ ghost use Rattle.std.specs.List.Sorted.{IsNonDecreasingBy};
 ghost use Rattle.nmgc_limits.specs.declared.mutators.TheConstants.{REGISTERS};
 ghost use Rattle.nmgc_world_spec.specs.World.{World as WorldOf};
 ghost use Rattle.nmgc_journal.specs.declared.report.MutatorEnd.{MutatorEnd as EndOf};
-ghost use Rattle.nmgc_image.specs.{declared.image.ImageMutator.ImageMutator as ShownOf, declared.heap_image.Keyed.Keyed as KeyedOf, Left.IsLeftAs, Shown.IsReadableObject, Shown.CanShowOwn, Shown.ShowsOwn, Shown.IsKeyed, Shown.ListsObjects, Shown.keyed_at, Shows.Shows, Shows.ListsHeld};
+ghost use Rattle.nmgc_image.specs.{declared.image.ImageMutator.ImageMutator as ShownOf, declared.heap_image.Keyed.Keyed as KeyedOf, Left.IsLeftAs, Shown.IsReadableObject, Shown.CanShowOwn, Shown.ShowsOwn, Shown.IsKeyed, Shown.ListsObjects, Shown.keyed_at, Image.Shows, Image.ListsHeld};
 
 use crate::declared::key;
 use crate::image::{Entry, Held, Image, ImageMutator};

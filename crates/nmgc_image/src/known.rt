@@ -1,7 +1,7 @@
 //! The names that count as declared while a text is read: at first all, since node lines may come later. Then the mentioned
 //! names are looked up. If one has no node line, the text is read again, and the first line to mention such a name is bad.
 ghost use Rattle.std.specs.{Prelude.◌≡◌, Prelude.true, List.list_all, Option.option_to_list};
-ghost use Rattle.nmgc_world_spec.specs.{Step.shared_name, World.held_by};
+ghost use Rattle.nmgc_world_spec.specs.World.{shared_name, held_by};
 ghost use Rattle.nmgc_image.specs.{Known.test_of, Reading.is_declared, Reading.is_own_in, Reading.is_object_in, Reading.AreMentionsIn};
 
 use crate::declared::Declared;

@@ -4,7 +4,7 @@
 //! place of addresses. Its text has a line for each mutator, register that isn't nil, queue entry and object. Every image has
 //! one spelling, and a text spells at most one image. So two heaps have the same image exactly if they have the same text.
 //!
-//! - `image`: the image. `specs/Image.antt` defines images, `specs/Spelling.antt` their text, `specs/Faults.antt` bad lines.
+//! - `image`: the image. `specs/Image.antt` defines images, `specs/Image.antt` their text, `specs/Image.antt` bad lines.
 //! - `read`: reading. `front`: the lines up to the first bad line. `text`: lines. `nodes`: node lines, by their tokens.
 //!   `plain`: constructors' node lines, in one pass. `declared`: which names have node lines; `known`: which names count as
 //!   declared meanwhile. `reader`: the content of the lines read, and the next line. `fault`: why an image can't be read.

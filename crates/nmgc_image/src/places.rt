@@ -5,7 +5,7 @@
 //! such a block may be unreachable. Then only its name can be read. So its other words aren't read before it is found.
 ghost use Rattle.std.specs.Prelude.{◌≡◌, ◌↔◌, ℕ, ◌^◌, ◌<◌, length, Contains, IfOk, IsTrue, OnOk};
 ghost use Rattle.nmgc_segment.specs.Segment.{InUse};
-ghost use Rattle.nmgc_alloc.specs.{Numbered.nth, Numbered.HasNumber, Segments.IsBlockAt};
+ghost use Rattle.nmgc_alloc.specs.{AllocState.nth, AllocState.HasNumber, Segments.IsBlockAt};
 ghost use Rattle.nmgc_image.specs.{Names.IsTestOf, Objects.name_in, Reading.has_key};
 ghost use Rattle.nmgc_image.specs.Reaching.{Reaches, IsSearch, Visits, ArePointers, IsOwnRoot, IsMutatorRoot, IsWeakBlock, IsWeakIn, IsWeakRoot, IsRootPlace, IsReadyFor};
 

@@ -1,7 +1,7 @@
 //! Images read from their text.
 ghost use Rattle.std.specs.Prelude.{◌≡◌, ◌↔◌, ℕ, ◌≤◌, ◌^◌, Bool, List, [], length, true, IfErr, IfOk, IsTrue, MatchResult};
 ghost use Rattle.nmgc_world_spec.specs.declared.value.Name.{Name as NameOf};
-ghost use Rattle.nmgc_image.specs.{Results.IsFaultOf, Known.test_of, Reading.AreRead, Reading.IsAnswer, Reading.image_of, Reading.FindsDeclared, Spelling.Spells, Text.cut, declared.image.Image.Image as Spelled};
+ghost use Rattle.nmgc_image.specs.{Results.IsFaultOf, Known.test_of, Reading.AreRead, Reading.IsAnswer, Reading.image_of, Reading.FindsDeclared, Image.Spells, Image.cut, declared.image.Image.Image as Spelled};
 
 use crate::ImageFault;
 use crate::declared::names_in;

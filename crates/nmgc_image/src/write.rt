@@ -3,8 +3,8 @@ ghost use Rattle.std.specs.Prelude.{◌≡◌, ◌∷◌, [], ◌++◌, map, IfO
 ghost use Rattle.nmgc_journal.specs.Text.{value_text};
 ghost use Rattle.nmgc_world_spec.specs.World.{World as WorldOf};
 ghost use Rattle.nmgc_io.specs.{Spaced.after_spaces, Text.spaced};
-ghost use Rattle.nmgc_image.specs.{declared.image.Image.Image as ImageOf, Left.IsLeftAs, Shows.Shows, Printing.printed};
-ghost use Rattle.nmgc_image.specs.Spelling.{Spells, mutator_words, register_words, queue_words, node_words, entry_words, mutator_lines};
+ghost use Rattle.nmgc_image.specs.{declared.image.Image.Image as ImageOf, Left.IsLeftAs, Printing.printed};
+ghost use Rattle.nmgc_image.specs.Image.{Spells, mutator_words, register_words, queue_words, node_words, entry_words, mutator_lines, Shows};
 ghost use Rattle.nmgc_image.specs.Printing.{image_text, first_words, own_lines};
 
 use crate::heap_image::image_of;

@@ -1,4 +1,3 @@
-pub mod Counts
 pub mod Memory
 pub mod Spaced
 pub mod Streams

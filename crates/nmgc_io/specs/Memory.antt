@@ -1,6 +1,6 @@
 -- The view that contracts have of a source and a sink in memory.
 use Rattle.std.specs.Prelude.{◌≡◌, ℕ, ◌+◌, List, Result, OnErr, IfOk}
-use Rattle.nmgc_io.specs.{Counts.next, Streams.CountsErr}
+use Rattle.nmgc_io.specs.{Text.next, Streams.CountsErr}
 
 -- a source in memory: the bytes left, the most bytes that a call gives, the numbers of the calls that fail, the number of
 -- calls and the number of failed calls

@@ -1,6 +1,6 @@
 -- The view that contracts have of a stream behind a source or a sink, and of its count of faults.
 use Rattle.std.specs.Prelude.{ℕ, ◌≡◌, ◌≤◌, Result, OnErr, OnOk}
-use Rattle.nmgc_io.specs.Counts.{next, Rose}
+use Rattle.nmgc_io.specs.Text.{next, Rose}
 
 -- the stream, and the number of its failures
 pub record Counted (S : Type 0) : Type 0 where

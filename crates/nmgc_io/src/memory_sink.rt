@@ -5,7 +5,7 @@
 //! fails if no room is left, but not if the room is only less than the piece.
 ghost use Rattle.std.specs.Prelude.{◌≡◌, ◌⊎◌, ◌↔◌, ◌+◌, ◌<◌, ◌≤◌, ◌++◌, [], min, length, vec_len, vec_capacity, IfOk, IsErr, Contains, Some};
 ghost use Rattle.std.specs.Io.KnownBytes.{WriteAppends};
-ghost use Rattle.nmgc_io.specs.{Streams.HasCause, Counts.next};
+ghost use Rattle.nmgc_io.specs.{Streams.HasCause, Text.next};
 
 use crate::{Failed, Sink};
 use nmgc_lists::NoMemory;

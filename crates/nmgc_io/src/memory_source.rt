@@ -5,7 +5,7 @@
 //! too, and takes no byte.
 ghost use Rattle.std.specs.Prelude.{◌≡◌, ◌↔◌, ◌<◌, ◌≤◌, ◌+◌, ◌++◌, min, length, take, drop, IfOk, IsErr, Contains, Some};
 ghost use Rattle.std.specs.{Io.ReadsAtMost, Io.KnownBytes.ReadConsumes};
-ghost use Rattle.nmgc_io.specs.{Streams.HasCause, Counts.next};
+ghost use Rattle.nmgc_io.specs.{Streams.HasCause, Text.next};
 
 use crate::{Failed, Source};
 use std::marker::Model;

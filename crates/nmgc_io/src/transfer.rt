@@ -7,7 +7,7 @@
 //! end, and a fault after some bytes leaves those bytes taken.
 ghost use Rattle.std.specs.Prelude.{◌≡◌, ◌≢◌, ◌+◌, ◌<◌, ◌≤◌, ◌^◌, length, vec_len, IfOk, IfErr, OnOk, OnErr, IsErrOf};
 ghost use Rattle.std.specs.Io.KnownBytes.{Consumes, Appends, IsAtEnd};
-ghost use Rattle.nmgc_io.specs.{Counts.Rose, Counts.Takes, Counts.TakesUpTo, Counts.AppendsFront, declared.ends.ReadEnd.TheVariants.TooLong};
+ghost use Rattle.nmgc_io.specs.{Text.Rose, Text.Takes, Text.TakesUpTo, Text.AppendsFront, declared.ends.ReadEnd.TheVariants.TooLong};
 
 use crate::{ReadEnd, Sink, Source, WriteEnd};
 use std::alloc::Global;

@@ -1,5 +1,5 @@
 -- All names of std, of the crates below and of this crate's definitions that the proofs use.
-pub use Rattle.nmgc_journal.specs.{Final.words_of, Reading.name_at, Reading.parts_at, Reading.value_at, Replies.reply_in, Spans.span_lines, Stops.AreEndedFrom, Stops.IsRestAfter, Printing.command_count, Text.IsValue, Text.cycle_text, Printing.ended_at, Text.name_line, Text.name_text, Text.replies_text, Printing.reply_line, Printing.round_text, Text.rounds_text, Text.stop_at, Text.value_text, declared.report.CycleRow.CycleRow, laws.Reading.found_by, laws.Reading.name_reads, laws.Reading.none_by, laws.Reading.parts_none, laws.Reading.parts_some, laws.Reading.value_reads}
+pub use Rattle.nmgc_journal.specs.{Packed.words_of, Packed.reply_in, Reading.name_at, Reading.parts_at, Reading.value_at, Spans.span_lines, Stops.AreEndedFrom, Stops.IsRestAfter, Printing.command_count, Text.IsValue, Text.cycle_text, Text.name_line, Text.name_text, Text.replies_text, Text.rounds_text, Text.stop_at, Text.value_text, Printing.ended_at, Printing.reply_line, Printing.round_text, declared.report.CycleRow.CycleRow, laws.Reading.found_by, laws.Reading.name_reads, laws.Reading.none_by, laws.Reading.parts_none, laws.Reading.parts_some, laws.Reading.value_reads}
 pub use Rattle.nmgc_name_lists.specs.{Spans.names_in, Spans.names_of, declared.span.Span.Span}
 pub use Rattle.nmgc_object.specs.Words.{IsName}
 pub use Rattle.nmgc_world_spec.specs.declared.{command.Reply.Reply, value.Name.Name}

@@ -1,7 +1,7 @@
 -- Parts of lines and counts of rows, as the functions that print them name them.
 use Rattle.std.specs.Prelude.{ℕ, List, [], ◌∷◌, ◌++◌, codes, decimal, length, sum_by, filter, ◌==◌}
 use Rattle.nmgc_world_spec.specs.declared.command.Reply.{Reply}
-use Rattle.nmgc_journal.specs.{declared.report.RoundRows.RoundRows, declared.report.StopRow.StopRow, declared.report.CycleRow.CycleRow, declared.report.MutatorEnd.MutatorEnd, declared.report.Report.Report, Text.replies_text, Text.reply_text, Summary.kept_count, Summary.count_line}
+use Rattle.nmgc_journal.specs.{declared.report.RoundRows.RoundRows, declared.report.StopRow.StopRow, declared.report.CycleRow.CycleRow, declared.report.MutatorEnd.MutatorEnd, declared.report.Report.Report, Text.replies_text, Text.reply_text, Text.kept_count, Text.count_line}
 
 -- the four counts that end a stop's line
 abbrev pub stop_counts : StopRow → List ℕ

@@ -1,11 +1,12 @@
--- The text of a report: ASCII lines, each ended by a line feed.
-use Rattle.std.specs.Prelude.{ℕ, ◌+◌, List, [], ◌∷◌, ◌++◌, codes, decimal, length, slice_get, ◌==◌, ◌&&◌, if◌then◌else◌, ◌<◌, filter}
-use Rattle.std.specs.{List.flat_map, Option.option_map_or}
+-- The text of a report, and the summary of a bench.
+use Rattle.std.specs.List.{flat_map}
+use Rattle.std.specs.Option.{option_map_or}
+use Rattle.std.specs.Prelude.{List, [], codes, decimal, filter, if◌then◌else◌, length, slice_get, sum_by, ℕ, ◌&&◌, ◌++◌, ◌+◌, ◌-◌, ◌<◌, ◌==◌, ◌∷◌}
 use Rattle.nmgc_limits.specs.declared.mutators.TheConstants.{SHARED_MAKER}
-use Rattle.nmgc_world_spec.specs.{declared.value.Name.Name, declared.value.Value.Value, declared.value.Value.TheVariants.Nil, declared.value.Value.TheVariants.Number, declared.value.Value.TheVariants.Ref, declared.command.Reply.Reply}
-use Rattle.nmgc_world_spec.specs.declared.command.Reply.TheVariants.{Fine, Yes, No, Updated, Already, Given, NoPointer, NoField, WrongKind, NotOwner, Fixed, Dead, Nothing, StackFull, StackEmpty}
-use Rattle.nmgc_journal.specs.{declared.report.RoundRows.RoundRows, declared.report.StopRow.StopRow, declared.report.CycleRow.CycleRow, declared.report.Report.Report, declared.report.Phase.Phase, declared.report.Phase.TheVariants.Idle, declared.report.Phase.TheVariants.Marking, declared.report.Phase.TheVariants.Sweeping, declared.report.End.End, declared.report.End.TheVariants.Done, declared.report.End.TheVariants.HeapFull}
+use Rattle.nmgc_world_spec.specs.declared.command.Reply.TheVariants.{Already, Dead, Fine, Fixed, Given, No, NoField, NoPointer, NotOwner, Nothing, StackEmpty, StackFull, Updated, WrongKind, Yes}
+use Rattle.nmgc_world_spec.specs.{declared.command.Reply.Reply, declared.value.Name.Name, declared.value.Value.Value, declared.value.Value.TheVariants.Nil, declared.value.Value.TheVariants.Number, declared.value.Value.TheVariants.Ref}
 use Rattle.nmgc_object.specs.{Words.IsName, declared.words.TheConstants.NUMBER_LIMIT}
+use Rattle.nmgc_journal.specs.{declared.report.CycleRow.CycleRow, declared.report.End.End, declared.report.End.TheVariants.Done, declared.report.End.TheVariants.HeapFull, declared.report.MutatorEnd.MutatorEnd, declared.report.Phase.Phase, declared.report.Phase.TheVariants.Idle, declared.report.Phase.TheVariants.Marking, declared.report.Phase.TheVariants.Sweeping, declared.report.Report.Report, declared.report.RoundRows.RoundRows, declared.report.StopRow.StopRow}
 
 -- the text of a name: the maker and the serial with a full stop between, or g for the shared array
 abbrev pub name_text : Name → List ℕ
@@ -88,3 +89,22 @@ abbrev pub IsValue : Value → Type 0
 IsValue Nil = Unit {0}
 IsValue (Number n) = n < NUMBER_LIMIT
 IsValue (Ref name) = IsName name
+
+-- the number of objects that the last cycle kept, and 0 if there is no cycle
+abbrev pub kept_count : List CycleRow → ℕ
+kept_count cycles = option_map_or (λ (cycle : CycleRow). cycle.kept) (slice_get cycles (length cycles - 1)) 0
+
+-- a line: a token and a number
+abbrev pub count_line : List ℕ → ℕ → List ℕ
+count_line word n = word ++ decimal n ++ 10 ∷ []
+
+-- the summary of a bench with this number of batches. It has the counts of commands, rounds and cycles, of objects made,
+-- promoted, freed, and kept by the last cycle, and the end
+abbrev pub summary_text : ℕ → Report → List ℕ
+summary_text batches r = count_line (codes "bench ") batches ++
+    count_line (codes "commands ") (sum_by (λ (rows : RoundRows). sum_by length rows.replies) r.rounds) ++
+    count_line (codes "rounds ") (length r.rounds) ++ count_line (codes "cycles ") (length r.cycles) ++
+    count_line (codes "made ") (sum_by (λ (mutator : MutatorEnd). mutator.serial) r.mutators) ++
+    count_line (codes "promoted ") (sum_by (λ (stop : StopRow). stop.promoted) r.stops) ++
+    count_line (codes "freed ") (sum_by (λ (cycle : CycleRow). length cycle.freed) r.cycles) ++
+    count_line (codes "kept ") (kept_count r.cycles) ++ end_text r.end

@@ -17,7 +17,7 @@ pub struct FinalWords {
 
 impl Model for FinalWords {
     ghost use Rattle.std.specs.Prelude.{ℕ, List};
-    ghost use Rattle.nmgc_journal.specs.Final.{words_of};
+    ghost use Rattle.nmgc_journal.specs.Packed.{words_of};
 
     ghost Value = { List ℕ };
 

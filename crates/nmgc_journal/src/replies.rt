@@ -1,7 +1,7 @@
 //! The replies of one mutator in one round, packed into half a word each.
 //!
 //! A report keeps every reply of a run. As values of 24 bytes they would be the largest part of a long run's report. A reply
-//! is a number, an object's name or one of fifteen others, so it can be packed into a word (`specs/Replies.antt`). The upper
+//! is a number, an object's name or one of fifteen others, so it can be packed into a word (`specs/Packed.antt`). The upper
 //! half of the word is 0, except for numbers of 2^31 or more and names with a serial of 2^22 or more. If a list has neither,
 //! only the lower halves are kept. A reader of a report unpacks one reply at a time. The packing is no part of the value,
 //! since contracts see the replies, and no format has it. It pays, since new memory takes a large part of a long run's time.
@@ -9,7 +9,7 @@
 //! a list of replies may have one, and is then kept unpacked as a whole.
 ghost use Rattle.std.specs.Prelude.{◌≡◌, ◌<◌, IfOk, IfSome, length, slice_get, slice_index_or, Some};
 ghost use Rattle.nmgc_world_spec.specs.{declared.command.Reply.TheVariants.Fine, declared.command.Reply.TheVariants.Given, declared.value.Value.TheVariants.Number, declared.value.Value.TheVariants.Ref};
-ghost use Rattle.nmgc_journal.specs.{Reading.HasWord, Replies.name_in, Replies.plain_replies, Replies.reply_in};
+ghost use Rattle.nmgc_journal.specs.{Packed.name_in, Packed.plain_replies, Packed.reply_in, Reading.HasWord};
 
 use nmgc_lists::NoMemory;
 use nmgc_world_spec::{Name, Reply, Value};
@@ -25,7 +25,7 @@ pub struct Replies {
 impl Model for Replies {
     ghost use Rattle.std.specs.Prelude.{List};
     ghost use Rattle.nmgc_world_spec.specs.declared.command.Reply.{Reply};
-    ghost use Rattle.nmgc_journal.specs.Replies.{replies_of};
+    ghost use Rattle.nmgc_journal.specs.Packed.{replies_of};
 
     ghost Value = { List Reply };
 

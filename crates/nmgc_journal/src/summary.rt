@@ -1,12 +1,12 @@
 //! The summary of a bench.
 //!
 //! It has the totals of the rows of a report: the work done, and the objects made, promoted, freed and kept. Each number is a
-//! sum over the rows, which are read once and not copied (`specs/Summary.antt`). The sums have 128 bits, except the number of
+//! sum over the rows, which are read once and not copied (`specs/Text.antt`). The sums have 128 bits, except the number of
 //! commands, which has 64 and has to be below 2^64. No list of rows is long enough for another sum to be too large, so the
 //! report needn't come from a run. Easy to get wrong: the number of kept objects is the last cycle's alone, since each cycle
 //! keeps a surviving object again.
 ghost use Rattle.std.specs.Prelude.{◌≡◌, ◌<◌, ◌^◌, ◌++◌, codes, OnOk, IfOk};
-ghost use Rattle.nmgc_journal.specs.Summary.{kept_count, count_line, summary_text};
+ghost use Rattle.nmgc_journal.specs.Text.{kept_count, count_line, summary_text};
 ghost use Rattle.nmgc_journal.specs.Printing.{reply_count, command_count, made_count, promoted_count, freed_count, run_lines, object_lines};
 
 use crate::text::push_end;

@@ -2,12 +2,12 @@
 use Rattle.std.proofs.{Common.◌≡◌, Common.inl, Common.inr, Common.ℕ, Common.zero, Common.suc, Common.◌+◌, Common.List, Common.[], Common.◌∷◌, Common.map, Common.length, Common.get_or, Common.refl, Common.sym, Common.ap, Common.subst, Common.◌∙◌, Common.arith, Common.Some, Common.None, Common.Option, lemmas.Option.slice_get_within as got_below}
 use Rattle.std.specs.{Prelude.Contains, Prelude.IsSome, Prelude.slice_get, List.flat_map}
 use Rattle.nmgc_limits.specs.declared.mutators.TheConstants.{SHARED_SLOTS}
-use Rattle.nmgc_world_spec.specs.{declared.value.Name.Name, declared.value.Value.Value, declared.node.Node.Node, declared.node.Node.TheVariants.Con, declared.node.Node.TheVariants.Var, declared.node.Node.TheVariants.Arr, declared.node.Node.TheVariants.Thunk, declared.node.Node.TheVariants.Weak, declared.node.Node.TheVariants.Stack, declared.mutator_state.MutatorState.MutatorState, World.IsShared, World.no_mutator, Step.shared_name, Reach.start, Reach.strong_fields}
+use Rattle.nmgc_world_spec.specs.{declared.value.Name.Name, declared.value.Value.Value, declared.node.Node.Node, declared.node.Node.TheVariants.Con, declared.node.Node.TheVariants.Var, declared.node.Node.TheVariants.Arr, declared.node.Node.TheVariants.Thunk, declared.node.Node.TheVariants.Weak, declared.node.Node.TheVariants.Stack, declared.mutator_state.MutatorState.MutatorState, World.IsShared, World.no_mutator, World.shared_name, Reach.start, Reach.strong_fields}
 use Rattle.nmgc_lists.specs.laws.Items.{contains_head, is_some_of}
 use Rattle.nmgc_object.specs.{FinQueue.FinQueue, declared.size.TheConstants.HEADER_WORDS}
 use Rattle.nmgc_segment.specs.{Segment.InUse, declared.state.State.TheVariants.Free}
-use Rattle.nmgc_alloc.specs.{Numbered.nth, Numbered.Segments, Numbered.HasNumber, Numbered.block_place, Segments.IsBlockAt, AllocState.LiesIn, AllocState.Cells, AllocState.cells, AllocState.name_in, laws.Placing.inside, laws.Sound.stands_sound, laws.Sound.used_exists}
-use Rattle.nmgc_heap_spec.specs.{Shape.holds, Shape.slots_of as slots_in, Places.Place, Places.Means, Places.ListMeans, Places.shared_place, Tracked.IsTracked, laws.Common.means_append, laws.Common.list_means, laws.Common.flat_registers}
+use Rattle.nmgc_alloc.specs.{AllocState.nth, AllocState.Segments, AllocState.HasNumber, AllocState.block_place, AllocState.LiesIn, AllocState.Cells, AllocState.cells, AllocState.name_in, Segments.IsBlockAt, laws.Placing.inside, laws.Sound.stands_sound, laws.Sound.used_exists}
+use Rattle.nmgc_heap_spec.specs.{Objects.holds, Objects.slots_of as slots_in, Objects.Place, Objects.Means, Objects.ListMeans, Objects.shared_place, Tracked.IsTracked, laws.Common.means_append, laws.Common.list_means, laws.Common.flat_registers}
 use Rattle.nmgc_round.specs.View.{Opening}
 use Rattle.nmgc_mark.specs.{Beginning.IsBeginning, Beginning.IsPrepared, Beginning.slots_of, Tie.AreApart, Tie.IsRightSnapshot, laws.Common.places_apart as apart_of}
 use Rattle.nmgc_mark.proofs.Words.{slot_word, slots_count}

@@ -2,9 +2,9 @@
 use Rattle.std.proofs.{Common.ne_eqb, Common.eq-eqb, Common.◌≡◌, Common.◌≢◌, Common.ℕ, Common.suc, Common.◌+◌, Common.◌^◌, Common.◌<◌, Common.◌≤◌, Common.Bool, Common.true, Common.false, Common.not, Common.◌&&◌, Common.eqb, Common.List, Common.[], Common.◌∷◌, Common.◌++◌, Common.length, Common.refl, Common.sym, Common.ap, Common.subst, Common.◌∙◌, Common.arith, Common.append_assoc, Math.Bool.and-false, lemmas.List.append-nil}
 use Rattle.nmgc_world_spec.specs.{declared.value.Name.Name, declared.node.Node.Node, declared.node.Node.TheVariants.Con, declared.node.Node.TheVariants.Var, declared.node.Node.TheVariants.Arr, declared.node.Node.TheVariants.Thunk, declared.node.Node.TheVariants.Weak, declared.node.Node.TheVariants.Stack, declared.node.Kind.Kind}
 use Rattle.nmgc_world_spec.specs.declared.node.Kind.TheVariants as kind
-use Rattle.nmgc_object.specs.{declared.words.Header.Header, declared.size.TheConstants.HEADER_WORDS, Words.header_word, Words.IsHeader, Layouts.IsLayout, Places.word_total, declared.layout.Layout.Layout}
+use Rattle.nmgc_object.specs.{declared.words.Header.Header, declared.size.TheConstants.HEADER_WORDS, Words.header_word, Words.IsHeader, Words.word_total, Layouts.IsLayout, declared.layout.Layout.Layout}
 use Rattle.nmgc_snapshot_laws.specs.Scan.{fields_of}
-use Rattle.nmgc_alloc.specs.Numbered.{Segments}
+use Rattle.nmgc_alloc.specs.AllocState.{Segments}
 use Rattle.nmgc_round.specs.{declared.table.Round.Round, View.Opening, View.Seen, View.Scan, Marking.Marks, Marking.name_meant, Marking.name_read, Marking.with_name, Marking.is_last_word, Marking.is_thunk, Ready.scanned_by, Known.FindsScan, Seat.RoundSeat, Seat.IsAt, Seat.Knows, Seat.seen, Seat.word_count}
 use Rattle.nmgc_mark.specs.{Seen.MarkerSeen, Marker.HasRoomToMark, Marker.HasMarked, Marker.turned, Tie.IsTied, laws.Common.marked_then, Work.IsScanning, Work.IsCollector, Work.IsLaterSeat, Work.IsAtField, Work.HasWorked, Work.SeatShows, Work.entry_now, Work.marks_seen, Work.rest_of, Work.fields_scanned, Work.has_results, Work.is_result}
 use Rattle.nmgc_mark.proofs.Scanning.{IsNode, IsTaken, node_known, thunk_by, goes_on, ends, not_last, header_more, field_last, result_last, fields_are}

@@ -4,10 +4,10 @@ use Rattle.std.specs.List.{flat_map}
 use Rattle.nmgc_world_spec.specs.{declared.mutator_state.MutatorState.MutatorState, World.World, Known.IsWorld, Reach.strong_fields}
 use Rattle.nmgc_limits.specs.declared.mutators.TheConstants.{SHARED_SLOTS}
 use Rattle.nmgc_object.specs.{FinQueue.FinQueue, declared.layout.Layout.Layout, declared.layout.TheConstants.SHARED_PLACE, declared.size.TheConstants.HEADER_WORDS, declared.size.TheConstants.MIN_BLOCK_WORDS}
-use Rattle.nmgc_alloc.specs.{Numbered.Segments, Segments.IsSegments, AllocState.AllocState, Stands.StandsFor, Blocks.IsMarkedAt, Blocks.IsSnapshotAt, Blocks.IsUsedAt}
-use Rattle.nmgc_heap_spec.specs.{Places.Place, Places.ListMeans, Places.shared_place, Represents.Represents, Represents.NoNode, Roots.RepresentsRoots}
+use Rattle.nmgc_alloc.specs.{AllocState.Segments, AllocState.AllocState, AllocState.StandsFor, Segments.IsSegments, Blocks.IsMarkedAt, Blocks.IsSnapshotAt, Blocks.IsUsedAt}
+use Rattle.nmgc_heap_spec.specs.{Objects.Place, Objects.ListMeans, Objects.shared_place, Represents.Represents, Represents.NoNode, Roots.RepresentsRoots}
 use Rattle.nmgc_round.specs.View.{Opening}
-use Rattle.nmgc_stop_spec.specs.Placed.{IsPlaceAtStop}
+use Rattle.nmgc_stop_spec.specs.Cycle.{IsPlaceAtStop}
 use Rattle.nmgc_mark.specs.Tie.{IsRightSnapshot}
 
 -- the words in the slots of g

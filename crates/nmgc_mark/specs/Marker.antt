@@ -1,7 +1,7 @@
 -- A marker and the segments after a mark, and after many marks.
 use Rattle.std.specs.Prelude.{◌≤◌, ℕ, ◌≡◌, ◌+◌, ◌-◌, Bool, List, [], ◌∷◌, ◌++◌, length, map, if◌then◌else◌, Contains}
 use Rattle.nmgc_object.specs.declared.words.Address.{Address}
-use Rattle.nmgc_alloc.specs.{Numbered.Segments, AllocState.AllocState, Stands.StandsFor, Blocks.MarksPlace, Blocks.IsSnapshotAt, Blocks.IsMarkedAt}
+use Rattle.nmgc_alloc.specs.{AllocState.Segments, AllocState.AllocState, AllocState.StandsFor, Blocks.MarksPlace, Blocks.IsSnapshotAt, Blocks.IsMarkedAt}
 use Rattle.nmgc_mark.specs.Seen.{MarkerSeen}
 
 -- addresses as numbers: positions in the heap's words

@@ -1,6 +1,6 @@
 -- Scanning at a stop: the collector goes on alone. Its scans are a round in which no mutator does anything.
 use Rattle.std.specs.Prelude.{ℕ, ◌≡◌, ◌∷◌, true, List, []}
-use Rattle.nmgc_alloc.specs.Numbered.{Segments}
+use Rattle.nmgc_alloc.specs.AllocState.{Segments}
 use Rattle.nmgc_round.specs.{Events.Happening, Events.did, Events.scanned, Events.IsLegal, View.Opening, View.Seen, Marking.marks_of, Rule.Keeps, Rule.now, Starting.CanOpen}
 use Rattle.nmgc_mark.specs.{Seen.MarkerSeen, Tie.IsTied}
 

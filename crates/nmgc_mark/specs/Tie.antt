@@ -2,11 +2,11 @@
 -- state of the marking machine with the objects in use, at a stop as well as in a round. The marks are that state's, or the
 -- marks after the collector's scans. A marker represents blocks by their addresses.
 use Rattle.std.specs.Prelude.{ℕ, ◌≡◌, ◌+◌, ◌≤◌, ◌⊎◌, ◌↔◌, List, [], ◌∷◌, length, Contains, IsSome}
-use Rattle.nmgc_world_spec.specs.{declared.value.Name.Name, World.node_of, Step.shared_name}
-use Rattle.nmgc_object.specs.{Places.word_total, FinQueue.FinQueue, declared.layout.Layout.Layout, declared.size.TheConstants.HEADER_WORDS}
+use Rattle.nmgc_world_spec.specs.{declared.value.Name.Name, World.node_of, World.shared_name}
+use Rattle.nmgc_object.specs.{Words.word_total, FinQueue.FinQueue, declared.layout.Layout.Layout, declared.size.TheConstants.HEADER_WORDS}
 use Rattle.nmgc_snapshot_laws.specs.declared.event.Entry.{Entry}
-use Rattle.nmgc_alloc.specs.{Numbered.Segments, Blocks.IsSnapshotAt, Blocks.IsMarkedAt}
-use Rattle.nmgc_heap_spec.specs.Places.{Place}
+use Rattle.nmgc_alloc.specs.{AllocState.Segments, Blocks.IsSnapshotAt, Blocks.IsMarkedAt}
+use Rattle.nmgc_heap_spec.specs.Objects.{Place}
 use Rattle.nmgc_round.specs.{View.Opening, Marking.Marks, Marking.with_name, Marking.name_at, Marking.name_meant}
 use Rattle.nmgc_mark.specs.Seen.{MarkerSeen}
 

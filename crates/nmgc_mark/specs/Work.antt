@@ -3,7 +3,7 @@ use Rattle.std.specs.Prelude.{ℕ, ◌≡◌, ◌+◌, ◌<◌, ◌≤◌, Bool,
 use Rattle.nmgc_world_spec.specs.declared.node.Kind.{Kind}
 use Rattle.nmgc_world_spec.specs.declared.node.Kind.TheVariants as kind
 use Rattle.nmgc_snapshot_laws.specs.declared.event.Entry.{Entry}
-use Rattle.nmgc_alloc.specs.Numbered.{Segments}
+use Rattle.nmgc_alloc.specs.AllocState.{Segments}
 use Rattle.nmgc_round.specs.{declared.table.Round.Round, View.Seen, View.Scan, Marking.Marks, Marking.marks_after, Ready.first_of, Seat.RoundSeat, Seat.IsAt, Seat.seen}
 use Rattle.nmgc_mark.specs.{Seen.MarkerSeen, Marker.HasMarked, Tie.IsTied}
 

@@ -1,11 +1,11 @@
 //! The marker against the marking machine: each function does nothing, and its contract is the law. A marker is tied to the
 //! machine, or to a view of a round, if its marks and queue are the machine's, or the view's.
 ghost use Rattle.std.specs.Prelude.{◌≡◌, ℕ, [], List, Contains, IsSome, true};
-ghost use Rattle.nmgc_world_spec.specs.{declared.value.Name.Name, Step.shared_name, World.node_of, Reach.IsReached, Reach.IsRoot};
+ghost use Rattle.nmgc_world_spec.specs.{declared.value.Name.Name, World.shared_name, World.node_of, Reach.IsReached, Reach.IsRoot};
 ghost use Rattle.nmgc_object.specs.FinQueue.{FinQueue};
 ghost use Rattle.nmgc_snapshot_laws.specs.{Facts.Facts, State.State as Core, State.names_of};
-ghost use Rattle.nmgc_alloc.specs.{Numbered.Segments, Segments.IsSegments};
-ghost use Rattle.nmgc_heap_spec.specs.Places.{Place};
+ghost use Rattle.nmgc_alloc.specs.{AllocState.Segments, Segments.IsSegments};
+ghost use Rattle.nmgc_heap_spec.specs.Objects.{Place};
 ghost use Rattle.nmgc_round.specs.{View.Opening, View.Seen, View.whole, Seating.collecting, Marking.Marks, Marking.marks_of, Rule.now, Finishing.IsFinished};
 ghost use Rattle.nmgc_mark.specs.{Marker.HasRoomToMark, Marker.blank, Seen.MarkerSeen, Beginning.IsBeginning, Beginning.IsPrepared, Beginning.most_blocks, Tie.IsRightSnapshot, Tie.IsTied, Work.marks_seen};
 

@@ -2,8 +2,8 @@
 use Rattle.std.proofs.{Common.◌≡◌, Common.◌<◌, Common.◌≤◌, Common.◌+◌, Common.◌-◌, Common.◌*◌, Common.ℕ, Common.List, Common.length, Common.inl, Common.inr, Common.sym, Common.ap, Common.subst, Common.◌∙◌, Common.arith, Common.Some, Math.Nat.mul-le-mul_right, lemmas.Bool.cases_order}
 use Rattle.std.specs.Prelude.{Contains}
 use Rattle.nmgc_world_spec.specs.{declared.value.Name.Name, declared.node.Node.Node, World.World, World.node_of, Known.IsWorld}
-use Rattle.nmgc_object.specs.{Words.header_word, Words.IsHeader, Places.InNursery, Places.nursery_place, declared.words.Header.Header, declared.layout.Layout.Layout, declared.size.TheConstants.HEADER_WORDS}
-use Rattle.nmgc_heap_spec.specs.{Shape.header_of, Shape.size_of, Tracked.IsTracked, Places.Place, Places.LiesInNursery, Represents.Represents, Represents.NoNode, Moves.StillSpoken}
+use Rattle.nmgc_object.specs.{Words.header_word, Words.IsHeader, Words.InNursery, Words.nursery_place, declared.words.Header.Header, declared.layout.Layout.Layout, declared.size.TheConstants.HEADER_WORDS}
+use Rattle.nmgc_heap_spec.specs.{Objects.header_of, Objects.size_of, Objects.Place, Objects.LiesInNursery, Tracked.IsTracked, Represents.Represents, Represents.NoNode, Moves.StillSpoken}
 use Rattle.nmgc_stop_spec.specs.{Strong.HasStrong, Strong.HasHeader, laws.Fields.stands, laws.Fields.field_in}
 use Rattle.nmgc_minor.specs.{declared.young.Young.Young, Inputs.Inputs, Inputs.HasInputs, Found.IsStart, Found.IsFound, Young.IsWithin, Young.CanFollow, Placing.CanPlaceAll, Placing.IsMarked}
 use Rattle.nmgc_minor.proofs.FoundLaws.{in_nursery, node_at, started, found_tracked}

@@ -1,6 +1,6 @@
 -- The objects found in the words are exactly the objects of the promotion rule.
 use Rattle.nmgc_minor.proofs.Vocabulary.{◌≡◌, ◌≢◌, ◌<◌, ◌≤◌, ◌+◌, ◌*◌, ◌⊎◌, ℕ, zero, suc, List, [], ◌∷◌, inl, inr, refl, sym, ap, subst, ◌∙◌, arith, Option, Some, None, Contains, slice_get, IsSome, All-contains, Contains-append_left, Contains-append_right, Name, Value, Parts, Node, Weak, World, node_of, state_of, IsKnown, IsNodeOf, IsShared, IsWorld, shared_name, IsReached, RefersTo, IsRoot, IsAlive, contains_head, at_some, is_some_of, contains_read, header_word, IsHeader, nursery_place, Header, Layout, SHARED_PLACE, WEAK_FIELDS, HEADER_WORDS, IsOfWeak, Slot, holds, unset, unspecified, slots_of, IsTracked, Place, Means, Fills, Represents, NoNode, StillSpoken, slot_held, IsFirstPromoted, IsPromoted, IsRoundOf, stands, field_in, Inputs, HasInputs, IsStart, IsFound, slice_index}
-use Rattle.nmgc_stop_spec.specs.Promoted.{IsYoung}
+use Rattle.nmgc_stop_spec.specs.Cycle.{IsYoung}
 use Rattle.nmgc_world_spec.specs.declared.value.Value.TheVariants as value
 use Rattle.nmgc_minor.proofs.FoundLaws.{node_at, root_tracked, shared_tracked, weak_alive, weak_tracked, shared_in, followed, root_found}
 

@@ -1,8 +1,8 @@
 -- The three writes of the third pass, one after the other.
 use Rattle.std.proofs.{Common.◌≡◌, Common.◌≢◌, Common.◌<◌, Common.◌≤◌, Common.◌+◌, Common.◌-◌, Common.ℕ, Common.List, Common.◌++◌, Common.length, Common.map, Common.take, Common.drop, Common.inl, Common.inr, Common.refl, Common.sym, Common.ap, Common.subst, Common.◌∙◌, Common.arith, Common.◌⊎◌, Math.ListN.get_or-eq_default, lemmas.Bool.cases_lt, lemmas.Bool.cases_eq, lemmas.List.take_at}
 use Rattle.std.specs.Prelude.{Contains, slice_index}
-use Rattle.nmgc_object.specs.{declared.words.Address.Address, declared.words.Header.Header, declared.size.TheConstants.HEADER_WORDS, Places.nursery_place, declared.layout.Layout.Layout, declared.layout.Nursery.Nursery}
-use Rattle.nmgc_alloc.specs.{Numbered.Segments, Segments.IsSegments}
+use Rattle.nmgc_object.specs.{declared.words.Address.Address, declared.words.Header.Header, declared.size.TheConstants.HEADER_WORDS, Words.nursery_place, declared.layout.Layout.Layout, declared.layout.Nursery.Nursery}
+use Rattle.nmgc_alloc.specs.{AllocState.Segments, Segments.IsSegments}
 use Rattle.nmgc_heap_spec.specs.Moves.{Moved, Copies}
 use Rattle.nmgc_minor.specs.{declared.placing.Move.Move, declared.young.Young.Young, Inputs.Inputs, Found.IsStart, Found.IsFound, Young.IsIn, Young.IsYoung, Start.Finds, Forwarding.forward_word, Forwarding.ForwardsAt, Forwarding.CanCopyAll, Forwarding.CopiesAll, Promotes.CanPromote, Promotes.Promotes, Promotes.Leaves, Placing.AreNurseries, Placing.CanPlaceEach, Placing.HasHeaderWord, Placing.IsMarked, Placing.IsSharedSlot, Placing.PlacesRange, Placing.moved_of}
 use Rattle.nmgc_stop_spec.specs.{Strong.HasHeader, laws.Blocks.IsBlock, laws.Blocks.is_block, laws.Blocks.occupied_apart}

@@ -1,7 +1,7 @@
 -- The search's inputs beside the words, and their relation to the world.
 use Rattle.std.specs.Prelude.{ℕ, ◌*◌, List, Contains}
 use Rattle.nmgc_world_spec.specs.{declared.value.Name.Name, declared.value.Value.Value, declared.value.Value.TheVariants.Ref, World.World, World.state_of}
-use Rattle.nmgc_heap_spec.specs.Places.{Place, Means}
+use Rattle.nmgc_heap_spec.specs.Objects.{Place, Means}
 use Rattle.nmgc_stop_spec.specs.Remembers.{Remembers}
 
 -- the search's inputs: the contents of the mutators' registers and queues, and the addresses of the fields recorded and the

@@ -2,8 +2,8 @@
 use Rattle.std.specs.Prelude.{ℕ, ◌≡◌, ◌≢◌, ◌+◌, ◌-◌, ◌*◌, ◌<◌, ◌≤◌, ◌⊎◌, List, [], ◌∷◌, length, map, slice_index, slice_set, Contains}
 use Rattle.nmgc_limits.specs.declared.mutators.TheConstants.{SHARED_SLOTS}
 use Rattle.nmgc_world_spec.specs.declared.value.Name.{Name}
-use Rattle.nmgc_object.specs.{Words.header_word, Words.name_word, Words.IsHeader, Words.IsName, Size.block_size, Size.IsClassOf, declared.layout.Layout.Layout, declared.words.Header.Header, Places.nursery_place, declared.layout.Nursery.Nursery, declared.layout.TheConstants.SHARED_PLACE, declared.size.TheConstants.HEADER_WORDS, declared.size.TheConstants.NAME_OFFSET}
-use Rattle.nmgc_alloc.specs.{Numbered.Segments, Numbered.block_place, Segments.Allocates, AllocState.AllocState, AllocState.PlacesName, Stands.StandsFor, Reserve.KeepsReserve}
+use Rattle.nmgc_object.specs.{Words.header_word, Words.name_word, Words.IsHeader, Words.IsName, Words.block_size, Words.IsClassOf, Words.nursery_place, declared.layout.Layout.Layout, declared.words.Header.Header, declared.layout.Nursery.Nursery, declared.layout.TheConstants.SHARED_PLACE, declared.size.TheConstants.HEADER_WORDS, declared.size.TheConstants.NAME_OFFSET}
+use Rattle.nmgc_alloc.specs.{AllocState.Segments, AllocState.block_place, AllocState.AllocState, AllocState.PlacesName, AllocState.StandsFor, Segments.Allocates, Reserve.KeepsReserve}
 use Rattle.nmgc_stop_spec.specs.{Nurseries.nursery_at, Strong.HasHeader, Occupied.IsOccupied, Occupied.KeepsMarks}
 use Rattle.nmgc_heap_spec.specs.Moves.{Moved, Copies}
 use Rattle.nmgc_minor.specs.declared.placing.Move.{Move}

@@ -1,8 +1,8 @@
 -- The effect of the three passes together on words and segments.
 use Rattle.std.specs.List.{flat_map}
 use Rattle.std.specs.Prelude.{ℕ, ◌≡◌, ◌≢◌, ◌+◌, ◌*◌, ◌<◌, ◌≤◌, ◌⊎◌, List, [], length, map, slice_index, Contains}
-use Rattle.nmgc_object.specs.{Words.name_word, Words.IsName, Places.nursery_place, declared.layout.TheConstants.FIRST_PLACE, declared.size.TheConstants.HEADER_WORDS, declared.size.TheConstants.NAME_OFFSET, declared.words.TheConstants.WEAK_FIELDS, declared.layout.Nursery.Nursery, declared.words.Address.Address, FinQueue.FinQueue}
-use Rattle.nmgc_alloc.specs.{Numbered.Segments, Segments.IsSegments, Reserve.KeepsReserve}
+use Rattle.nmgc_object.specs.{Words.name_word, Words.IsName, Words.nursery_place, declared.layout.TheConstants.FIRST_PLACE, declared.size.TheConstants.HEADER_WORDS, declared.size.TheConstants.NAME_OFFSET, declared.words.TheConstants.WEAK_FIELDS, declared.layout.Nursery.Nursery, declared.words.Address.Address, FinQueue.FinQueue}
+use Rattle.nmgc_alloc.specs.{AllocState.Segments, Segments.IsSegments, Reserve.KeepsReserve}
 use Rattle.nmgc_heap_spec.specs.Moves.{Moved, Forwards}
 use Rattle.nmgc_stop_spec.specs.{Nurseries.AreEmpty, Stopped.Stopped, Stopped.IsStopped}
 use Rattle.nmgc_minor.specs.{declared.placing.Move.Move, declared.young.Young.Young, Inputs.Inputs, Found.IsStart, Found.IsFound, Young.IsIn, Young.IsYoung, Young.IsWithin, Young.CanFollow, Forwarding.forward_word, Start.words_of, Start.places_of}

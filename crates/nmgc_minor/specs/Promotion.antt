@@ -1,6 +1,6 @@
 -- A promotion in contracts.
 use Rattle.std.specs.Prelude.{ℕ, ◌≡◌, ◌*◌, List}
-use Rattle.nmgc_object.specs.{declared.layout.Layout.Layout, Places.nursery_place}
+use Rattle.nmgc_object.specs.{declared.layout.Layout.Layout, Words.nursery_place}
 use Rattle.nmgc_minor.specs.declared.placing.Move.{Move}
 
 -- a promotion: where the nurseries begin, the number of their words, for which memory was taken, and the last call's moves

@@ -6,7 +6,7 @@ ghost use Rattle.std.specs.Prelude.{ℕ, ◌≡◌, ◌+◌, ◌-◌, ◌*◌, �
 ghost use Rattle.nmgc_alloc.specs.{Reserve.KeepsReserve, Segments.IsSegments, Segments.IsMutator};
 ghost use Rattle.nmgc_stop_spec.specs.Nurseries.{AreEmpty};
 ghost use Rattle.nmgc_minor.specs.{declared.placing.Move.Move as Shown, Placing.CanPlaceAll, Placing.CanPlaceEach, Placing.AreNurseries, Placing.PlacesRange};
-ghost use Rattle.nmgc_object.specs.Places.{nursery_place};
+ghost use Rattle.nmgc_object.specs.Words.{nursery_place};
 
 use crate::placing::{Move, object_words, place_object};
 use nmgc_alloc::Segments;

@@ -5,7 +5,7 @@
 //!
 //! Easy to get wrong: no pass writes to a nursery. So the third pass copies objects as the round left them, in any order.
 ghost use Rattle.std.specs.Prelude.{ℕ, ◌≡◌, ◌≢◌, ◌+◌, ◌*◌, ◌<◌, ◌≤◌, List, [], length, map, slice_index, Contains};
-ghost use Rattle.nmgc_object.specs.Places.{nursery_place};
+ghost use Rattle.nmgc_object.specs.Words.{nursery_place};
 ghost use Rattle.nmgc_alloc.specs.Segments.{IsSegments};
 ghost use Rattle.nmgc_minor.specs.{Start.inputs_by, Forwarding.forward_word, Promotes.CanPromote, Promotes.CanPromoteWith, Promotes.Promotes, Promotes.Leaves, Promotes.forwarded, Promotes.promoted, Resting.IsResting, Resting.IsCleared};
 

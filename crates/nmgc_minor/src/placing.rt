@@ -1,6 +1,6 @@
 //! The second pass: each found object is given a block, in order of names. This is the table's order, so nothing is sorted.
 ghost use Rattle.std.specs.Prelude.{ℕ, ◌≡◌, ◌+◌, ◌<◌, ◌≤◌, ◌*◌, ◌++◌, List, length, slice_index};
-ghost use Rattle.nmgc_object.specs.{Size.block_size, Words.name_word, declared.words.Header.Header, declared.size.TheConstants.HEADER_WORDS as HEADERS, declared.size.TheConstants.MAX_BLOCK_WORDS};
+ghost use Rattle.nmgc_object.specs.{Words.block_size, Words.name_word, declared.words.Header.Header, declared.size.TheConstants.HEADER_WORDS as HEADERS, declared.size.TheConstants.MAX_BLOCK_WORDS};
 ghost use Rattle.nmgc_alloc.specs.{Reserve.KeepsReserve, Segments.IsSegments, Segments.IsMutator, Segments.IsClass, Segments.HasRoom};
 ghost use Rattle.nmgc_stop_spec.specs.Strong.{HasHeader};
 ghost use Rattle.nmgc_minor.specs.Placing.{CanPlace, PlacesOne, HasHeaderWord};

@@ -1,8 +1,8 @@
 //! Promotion as a whole: its inputs, and its promise about the world.
 ghost use Rattle.std.specs.Prelude.{ℕ, ◌≡◌, ◌+◌, ◌*◌, ◌<◌, ◌≤◌, length, map, IfOk};
 ghost use Rattle.std.specs.List.{flat_map};
-ghost use Rattle.nmgc_alloc.specs.{AllocState.AllocState, Stands.StandsFor, Segments.IsSegments};
-ghost use Rattle.nmgc_stop_spec.specs.{Occupied.KeepsMarks, Promoted.PlacesEach, Stopped.Stopped, Stopped.IsSettled, Stopped.young_base};
+ghost use Rattle.nmgc_alloc.specs.{AllocState.AllocState, AllocState.StandsFor, Segments.IsSegments};
+ghost use Rattle.nmgc_stop_spec.specs.{Occupied.KeepsMarks, Cycle.PlacesEach, Stopped.Stopped, Stopped.IsSettled, Stopped.young_base};
 ghost use Rattle.nmgc_minor.specs.{Placing.moved_of, Promotes.Changes, Promotes.IsStoppedBy, Promotes.promoted, Start.words_of, Start.places_of};
 ghost use Rattle.nmgc_heap_spec.specs.Emptied.{emptied};
 

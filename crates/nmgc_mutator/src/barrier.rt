@@ -7,7 +7,7 @@
 //! pushes those that refer to objects in segments (`push`, `push_words`). Owed are the old word of `set`, `cas` and
 //! `pop_value`, and the free variables of a thunk to which `update` gives a result. The marker doesn't follow the fields of a
 //! weak pointer. So `deref` owes the value that it reads, and `finalise` owes the weak pointer that it kills, with value and
-//! finaliser. `owed_by` lists all (`specs/Owed.antt` of `nmgc_world_spec`).
+//! finaliser. `owed_by` lists all (`specs/Reach.antt` of `nmgc_world_spec`).
 //!
 //! Then no object live at the snapshot is lost. The marker scans each marked object once. The target of each strong field of
 //! the snapshot is marked, owed or pushed, or the field is unchanged and not scanned yet. In that case the field's object

@@ -5,7 +5,7 @@
 //! Easy to get wrong: `update` and `finalise` owe more than the word of that step, and owe it from that very step on. So a
 //! thunk's free variables and a weak pointer's finaliser are loaded before it: by then the seat must name them.
 ghost use Rattle.std.specs.Prelude.{◌≡◌, ◌+◌, length, ◌-◌, ◌^◌, ◌<◌, ◌≤◌, []};
-ghost use Rattle.nmgc_world_spec.specs.{Known.IsOperand, Known.IsRegister, Command.Fits, declared.command.Command.TheVariants.Cas, declared.command.Command.TheVariants.Deref, declared.command.Command.TheVariants.Finalise, declared.command.Command.TheVariants.Force, declared.command.Command.TheVariants.Update, declared.node.Kind.TheVariants.Thunk};
+ghost use Rattle.nmgc_world_spec.specs.{Known.IsOperand, Known.IsRegister, World.Fits, declared.command.Command.TheVariants.Cas, declared.command.Command.TheVariants.Deref, declared.command.Command.TheVariants.Finalise, declared.command.Command.TheVariants.Force, declared.command.Command.TheVariants.Update, declared.node.Kind.TheVariants.Thunk};
 ghost use Rattle.nmgc_object.specs.{declared.words.Header.Header, declared.size.TheConstants.HEADER_WORDS, declared.words.TheConstants.WEAK_FIELDS};
 ghost use Rattle.nmgc_round.specs.{Ready.Names, View.plain, View.hand_now, View.leaves, Known.known_answer, Known.CanAnswer, Seat.seen, Seat.word_count};
 ghost use Rattle.nmgc_mutator.specs.{declared.mutator.TheConstants.MOST_PUSHED, Thunks.AreLoaded, Ready.IsReady, Ready.part_of, Ready.hand_in, Records.recorded_by, Records.noted_by, Records.weaks_by, Acts.Acts, Acts.most_pushed};

@@ -6,7 +6,7 @@
 //!
 //! Easy to get wrong: no word has a stack's depth. It is the number of slots before the first 0, so a `pop` has to leave 0.
 ghost use Rattle.std.specs.Prelude.{◌≡◌, ◌+◌, ◌-◌, ◌^◌, ◌<◌, ◌≤◌, [], IfOk, IfErr};
-ghost use Rattle.nmgc_world_spec.specs.{Known.IsOperand, Known.IsRegister, Command.Fits, declared.command.Command.TheVariants.NextFin, declared.command.Command.TheVariants.Pop, declared.command.Command.TheVariants.Push};
+ghost use Rattle.nmgc_world_spec.specs.{Known.IsOperand, Known.IsRegister, World.Fits, declared.command.Command.TheVariants.NextFin, declared.command.Command.TheVariants.Pop, declared.command.Command.TheVariants.Push};
 ghost use Rattle.nmgc_object.specs.declared.size.TheConstants.{HEADER_WORDS};
 ghost use Rattle.nmgc_round.specs.Seat.{IsAt, Knows, seen, word_count};
 ghost use Rattle.nmgc_mutator.specs.{Ready.IsReady, Does.Went, Acts.Acts, Stacks.Owns, Stacks.HasNoStack, Stacks.IsOwnStack, Stacks.HasDepth};

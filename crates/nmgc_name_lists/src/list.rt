@@ -1,6 +1,6 @@
 //! A list of names, to be read and put in order. Contracts see it as a list. It can't grow: it is made as a `NameRoom`.
 ghost use Rattle.std.specs.{Prelude.◌≡◌, Prelude.length, List.Sorted.IsPermutation};
-ghost use Rattle.nmgc_world_spec.specs.Listing.{AreDistinct};
+ghost use Rattle.nmgc_world_spec.specs.Reach.{AreDistinct};
 ghost use Rattle.nmgc_name_lists.specs.{Order.in_order, Spans.names_in, Order.AreSorted};
 
 use crate::span::Span;

@@ -2,7 +2,7 @@
 use Rattle.std.specs.Prelude.{ℕ, ◌+◌, ◌*◌, ◌%◌, ◌<◌, ◌≤◌}
 use Rattle.nmgc_limits.specs.{Limits.most_heap_words, Limits.most_segments, declared.mutators.TheConstants.MAKERS}
 pub use Rattle.nmgc_limits.specs.Limits.{IsSegmentSize}
-use Rattle.nmgc_object.specs.{Size.block_size, declared.layout.TheConstants.FIRST_PLACE, declared.layout.Layout.Layout, Places.word_total}
+use Rattle.nmgc_object.specs.{Words.block_size, Words.word_total, declared.layout.TheConstants.FIRST_PLACE, declared.layout.Layout.Layout}
 
 -- a layout: sizes of a heap, each within the limits
 pub record IsLayout (layout : Layout) : Type 0 where

@@ -1,9 +1,27 @@
--- Headers and names, and the word of each.
-use Rattle.std.specs.Prelude.{ℕ, ◌≡◌, ◌+◌, ◌*◌, ◌<◌, ◌≤◌, ◌^◌}
+-- The heap's words: blocks and their classes, headers and names, and the parts of the heap.
+use Rattle.std.specs.List.{range_with_len}
+use Rattle.std.specs.Prelude.{count_by, if◌then◌else◌, nat_le, ℕ, ◌*◌, ◌+◌, ◌-◌, ◌/◌, ◌<◌, ◌^◌, ◌≡◌, ◌≤◌}
 use Rattle.nmgc_limits.specs.declared.mutators.TheConstants.{SHARED_MAKER}
-use Rattle.nmgc_world_spec.specs.{declared.value.Name.Name, declared.node.Kind.Kind, declared.node.Kind.TheVariants.Con, declared.node.Kind.TheVariants.Var, declared.node.Kind.TheVariants.Arr, declared.node.Kind.TheVariants.Thunk, declared.node.Kind.TheVariants.Weak, declared.node.Kind.TheVariants.Stack}
-use Rattle.nmgc_object.specs.declared.words.TheConstants.{TAGS, MAX_FIELDS, MAX_THUNK_FIELDS, VAR_FIELDS, WEAK_FIELDS, TAG_UNIT, FIELDS_UNIT, SERIAL_UNIT}
-use Rattle.nmgc_object.specs.declared.words.Header.{Header}
+pub use Rattle.nmgc_limits.specs.Limits.{IsSegmentSize}
+use Rattle.nmgc_world_spec.specs.declared.node.Kind.TheVariants.{Arr, Con, Stack, Thunk, Var, Weak}
+use Rattle.nmgc_world_spec.specs.{declared.node.Kind.Kind, declared.value.Name.Name}
+use Rattle.nmgc_object.specs.declared.size.TheConstants.{DENSE_CLASS, DENSE_WORDS, MAX_CLASS, MIN_BLOCK_WORDS, NAME_OFFSET}
+use Rattle.nmgc_object.specs.declared.words.TheConstants.{FIELDS_UNIT, MAX_FIELDS, MAX_THUNK_FIELDS, SERIAL_UNIT, TAGS, TAG_UNIT, VAR_FIELDS, WEAK_FIELDS}
+use Rattle.nmgc_object.specs.{declared.layout.Layout.Layout, declared.layout.TheConstants.FIRST_PLACE, declared.words.Header.Header}
+
+-- the words of a block of a class: four in class 0, and one more from class to class, up to sixteen in class 12. From there
+-- they double from class to class, up to 4,096 in class 20
+abbrev pub block_size : ℕ → ℕ
+block_size class = if nat_le class DENSE_CLASS then class + MIN_BLOCK_WORDS else DENSE_WORDS * 2 ^ (class - DENSE_CLASS)
+
+-- the class of an object: the least class whose block holds its words
+pub record IsClassOf (words class : ℕ) : Type 0 where
+  pub holds : words ≤ block_size class
+  pub least : (smaller : ℕ) → smaller < class → block_size smaller < words
+
+-- the address of an object's name, which is its second word
+abbrev pub name_place : ℕ → ℕ
+name_place at = at + NAME_OFFSET
 
 -- the number of a kind in a header word
 abbrev pub kind_number : Kind → ℕ
@@ -47,3 +65,37 @@ IsName name = (name.maker ≤ SHARED_MAKER) × (name.serial < 2 ^ 32) × (name.m
 -- the word of a name
 abbrev pub name_word : Name → ℕ
 name_word name = SERIAL_UNIT * name.serial + name.maker
+
+-- the address of a segment's first word
+abbrev pub segment_place : Layout → ℕ → ℕ
+segment_place layout segment = FIRST_PLACE + segment * layout.words
+
+-- the address of the first word of a mutator's nursery
+abbrev pub nursery_place : Layout → ℕ → ℕ
+nursery_place layout mutator = FIRST_PLACE + layout.segments * layout.words + mutator * layout.nursery
+
+-- the number of words of the heap
+abbrev pub word_total : Layout → ℕ
+word_total layout = FIRST_PLACE + layout.segments * layout.words + layout.mutators * layout.nursery
+
+-- the number of classes (K) whose blocks fit into a segment. It is 13 if a segment has 16 words, and one more each time the
+-- segment's words double (a law: `nmgc_run_laws`'s `Statements.ClassesAreCounted`)
+abbrev pub class_count : Layout → ℕ
+class_count layout = count_by (λ class. nat_le (block_size class) layout.words) (range_with_len 0 (MAX_CLASS + 1))
+
+-- the reserve (R): the number of free segments that suffices to promote every nursery. It is twice the words of all nurseries
+-- divided by the words of a segment, rounded down, plus one segment for each mutator and class
+abbrev pub reserve_count : Layout → ℕ
+reserve_count layout = 2 * layout.mutators * layout.nursery / layout.words + class_count layout * layout.mutators
+
+-- a word of a segment
+pub record InSegment (layout : Layout) (segment at : ℕ) : Type 0 where
+  pub exists : segment < layout.segments
+  pub from : segment_place layout segment ≤ at
+  pub before : at < segment_place layout segment + layout.words
+
+-- a word of a mutator's nursery
+pub record InNursery (layout : Layout) (mutator at : ℕ) : Type 0 where
+  pub exists : mutator < layout.mutators
+  pub from : nursery_place layout mutator ≤ at
+  pub before : at < nursery_place layout mutator + layout.nursery

@@ -1,7 +1,7 @@
 //! Laws of the definitions of words and addresses, for every value. Each function does nothing; its contract is the law.
 ghost use Rattle.std.specs.Prelude.{ℕ, ◌≡◌, ◌↔◌, ◌+◌, ◌*◌, ◌^◌, ◌<◌, ◌≤◌};
 ghost use Rattle.nmgc_world_spec.specs.declared.value.Name.{Name};
-ghost use Rattle.nmgc_object.specs.{Words.header_word, Words.name_word, Fields.field_word, Words.IsHeader, Words.IsName, Fields.IsField, Fields.header_place, Size.name_place, Fields.field_place, Fields.object_size, Size.block_size, Size.IsClassOf, Layouts.IsLayout, Places.InSegment, Places.InNursery, Layouts.InHeap, Places.class_count, Layouts.left_over, declared.words.Header.Header, declared.words.Field.Field, declared.layout.Layout.Layout};
+ghost use Rattle.nmgc_object.specs.{Words.header_word, Words.name_word, Words.IsHeader, Words.IsName, Words.name_place, Words.block_size, Words.IsClassOf, Words.InSegment, Words.InNursery, Words.class_count, Fields.field_word, Fields.IsField, Fields.header_place, Fields.field_place, Fields.object_size, Layouts.IsLayout, Layouts.InHeap, Layouts.left_over, declared.words.Header.Header, declared.words.Field.Field, declared.layout.Layout.Layout};
 
 use crate::layout::{FIRST_PLACE, SHARED_PLACE};
 use crate::size::{

@@ -4,7 +4,7 @@
 //! follow the segments, one after the other, and then a nursery for each mutator. Every part of the collector takes its
 //! addresses from here, so that no two of them ever write the same word: `laws` has the promise that the parts lie apart.
 ghost use Rattle.std.specs.Prelude.{ℕ, ◌≡◌, ◌↔◌, ◌+◌, ◌-◌, ◌<◌, ◌≤◌};
-ghost use Rattle.nmgc_object.specs.{Size.block_size, Layouts.IsLayout, Places.segment_place, Places.nursery_place, Places.word_total, Places.class_count, Places.reserve_count};
+ghost use Rattle.nmgc_object.specs.{Words.block_size, Words.segment_place, Words.nursery_place, Words.word_total, Words.class_count, Words.reserve_count, Layouts.IsLayout};
 
 use crate::size::{HEADER_WORDS, class_of};
 use nmgc_limits::SHARED_SLOTS;

@@ -6,7 +6,7 @@
 //! Easy to get wrong: if a block's words aren't a power of two, some words of a segment lie after its last block and are
 //! unused. So a segment full of objects has fewer words of objects than it has words.
 ghost use Rattle.std.specs.Prelude.{ℕ, ◌≡◌, ◌<◌, ◌≤◌};
-ghost use Rattle.nmgc_object.specs.{Fields.object_size, Fields.word_count, Size.block_size, Words.IsHeader};
+ghost use Rattle.nmgc_object.specs.{Fields.object_size, Fields.word_count, Words.IsHeader, Words.block_size};
 
 use crate::words::{Header, MAX_FIELDS, VAR_FIELDS, WEAK_FIELDS};
 use nmgc_limits::MAX_SEGMENT_WORDS;

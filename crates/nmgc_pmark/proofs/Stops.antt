@@ -1,6 +1,6 @@
 -- The heap at a stop of a run is a stopped heap, whose roots are the mutators' values.
 use Rattle.nmgc_pmark.proofs.Vocabulary.{◌≡◌, ◌<◌, ℕ, List, [], ◌∷◌, suc, length, get_or, refl, sym, ap, subst, arith, inl, inr, Some, Contains, slice_get, flat_map, MutatorState, Name, IsWorld, no_mutator, IsReached, contains_head, block_size, nursery_place, Layout, cells, Segments, IsSegments, Place, ListMeans, Represents, NoNode, IsTracked, AreBlocks, IsOccupied, is_block, MutatorEnd, HoldsAtStop, snapshots, registers_of, queues_of, block_used, blocks_at_stop, Stopped, roots_of, root_words, IsStoppedAs, StopsAreStopped, means_append, flat_registers}
-use Rattle.nmgc_run_spec.specs.State.{State}
+use Rattle.nmgc_run_spec.specs.Run.{State}
 use Rattle.nmgc_world_spec.specs.declared.value.Value.TheVariants as value
 use Rattle.nmgc_pmark.proofs.Scans.{start_root}
 

@@ -1,9 +1,9 @@
 -- Several markers against the one marker of a cycle: from the registers and queues of a snapshot they mark the same objects.
 use Rattle.std.specs.Prelude.{ℕ, ◌≡◌, ◌≢◌, ◌↔◌, List, slice_get, Some, Contains}
-use Rattle.nmgc_world_spec.specs.{declared.value.Name.Name, Known.IsWorld, Step.shared_name}
+use Rattle.nmgc_world_spec.specs.{declared.value.Name.Name, Known.IsWorld, World.shared_name}
 use Rattle.nmgc_snapshot_laws.specs.State.{opening}
-use Rattle.nmgc_alloc.specs.{Numbered.Segments, Blocks.IsSnapshotAt, Blocks.IsMarkedAt}
-use Rattle.nmgc_heap_spec.specs.Places.{Place}
+use Rattle.nmgc_alloc.specs.{AllocState.Segments, Blocks.IsSnapshotAt, Blocks.IsMarkedAt}
+use Rattle.nmgc_heap_spec.specs.Objects.{Place}
 use Rattle.nmgc_round.specs.View.{Opening}
 use Rattle.nmgc_mark.specs.{Seen.MarkerSeen, Stopped.HasFinished}
 use Rattle.nmgc_pmark.specs.{Claims.AreClaims, Strong.roots_of}

@@ -2,10 +2,10 @@
 use Rattle.std.specs.{Prelude.ℕ, Prelude.◌≡◌, Prelude.List, Prelude.◌++◌, List.flat_map}
 use Rattle.nmgc_world_spec.specs.Known.{IsWorld}
 use Rattle.nmgc_object.specs.declared.layout.Layout.{Layout}
-use Rattle.nmgc_alloc.specs.{Numbered.Segments, Segments.IsSegments}
-use Rattle.nmgc_heap_spec.specs.Places.{Place}
+use Rattle.nmgc_alloc.specs.{AllocState.Segments, Segments.IsSegments}
+use Rattle.nmgc_heap_spec.specs.Objects.{Place}
 use Rattle.nmgc_journal.specs.declared.report.MutatorEnd.{MutatorEnd}
-use Rattle.nmgc_run_spec.specs.{Heap.HoldsAtStop, Terms.registers_of, State.State}
+use Rattle.nmgc_run_spec.specs.{Heap.HoldsAtStop, Terms.registers_of, Run.State}
 use Rattle.nmgc_pmark.specs.{Claims.Stopped, Claims.IsStopped, Strong.roots_of}
 
 -- the root words of a heap: the words of the registers of all mutators, and then of their finaliser queues

@@ -1,7 +1,7 @@
 -- Strong reach from the mutators' values, which several markers claim.
 use Rattle.std.specs.Prelude.{◌+◌, List, ◌++◌, ◌≡◌, ◌↔◌, ◌⊎◌, Contains, ◌≢◌}
 use Rattle.std.specs.List.{flat_map}
-use Rattle.nmgc_world_spec.specs.{declared.mutator_state.MutatorState.MutatorState, declared.value.Value.Value, World.World, declared.value.Name.Name, declared.value.Value.TheVariants.Ref, Step.shared_name, Reach.IsReached, Known.IsWorld}
+use Rattle.nmgc_world_spec.specs.{declared.mutator_state.MutatorState.MutatorState, declared.value.Value.Value, World.World, World.shared_name, declared.value.Name.Name, declared.value.Value.TheVariants.Ref, Reach.IsReached, Known.IsWorld}
 use Rattle.nmgc_run_spec.specs.Terms.{IsStrongObject}
 
 -- the values of a world's roots: the registers of each mutator, and then the finaliser queues

@@ -1,10 +1,10 @@
 -- The heap before any command: g lies in its own words, and there is no other object.
 use Rattle.std.specs.Prelude.{◌≡◌, ℕ, ◌+◌, ◌<◌, false, List, [], ◌∷◌, length, replicate, slice_index}
 use Rattle.nmgc_limits.specs.declared.mutators.TheConstants.{REGISTERS, SHARED_SLOTS}
-use Rattle.nmgc_world_spec.specs.{declared.value.Value.TheVariants.Nil, declared.node.Node.Node, declared.node.Node.TheVariants.Arr, World.new_world, Step.shared_name}
-use Rattle.nmgc_object.specs.{Words.header_word, Words.name_word, Places.word_total, declared.layout.Layout.Layout, declared.layout.TheConstants.SHARED_PLACE, declared.size.TheConstants.HEADER_WORDS, declared.words.TheConstants.NIL_WORD}
+use Rattle.nmgc_world_spec.specs.{declared.value.Value.TheVariants.Nil, declared.node.Node.Node, declared.node.Node.TheVariants.Arr, World.new_world, World.shared_name}
+use Rattle.nmgc_object.specs.{Words.header_word, Words.name_word, Words.word_total, declared.layout.Layout.Layout, declared.layout.TheConstants.SHARED_PLACE, declared.size.TheConstants.HEADER_WORDS, declared.words.TheConstants.NIL_WORD}
 use Rattle.nmgc_snapshot_laws.specs.State.{unmarked}
-use Rattle.nmgc_heap_spec.specs.{Shape.header_of, Places.HasZeros, Places.shared_place}
+use Rattle.nmgc_heap_spec.specs.Objects.{header_of, HasZeros, shared_place}
 use Rattle.nmgc_round.specs.View.{Hand, Opening}
 
 -- g, full of nil

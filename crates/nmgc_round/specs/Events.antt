@@ -1,6 +1,6 @@
 -- The events of a round: the steps of its mutators and its collector, in one order, as events of the marking machine.
 use Rattle.std.specs.Prelude.{◌≡◌, ℕ, List, [], ◌∷◌, ◌==◌, Option, if◌then◌else◌}
-use Rattle.nmgc_world_spec.specs.{declared.value.Value.Value, declared.command.Command.Command, declared.command.Reply.Reply, World.node_of, History.Row}
+use Rattle.nmgc_world_spec.specs.{declared.value.Value.Value, declared.command.Command.Command, declared.command.Reply.Reply, World.node_of, Reach.Row}
 use Rattle.nmgc_snapshot_laws.specs.{declared.event.Entry.Entry, declared.event.Event.Event, State.State, Scan.read_at, Machine.IsPossible, Machine.after_command, Machine.after_scan}
 use Rattle.nmgc_snapshot_laws.specs.declared.event.Event.TheVariants as event
 

@@ -2,10 +2,10 @@
 use Rattle.std.specs.Prelude.{◌≡◌, true, ℕ, ◌<◌, List, ◌∷◌, ◌++◌, map, length, Contains}
 use mathlib.Core.Option.{some}
 use lib.ListN.{get_elem?}
-use Rattle.nmgc_world_spec.specs.{declared.value.Name.Name, declared.node.Node.Node, Step.shared_name}
-use Rattle.nmgc_object.specs.{declared.layout.TheConstants.SHARED_PLACE, Places.word_total}
+use Rattle.nmgc_world_spec.specs.{declared.value.Name.Name, declared.node.Node.Node, World.shared_name}
+use Rattle.nmgc_object.specs.{declared.layout.TheConstants.SHARED_PLACE, Words.word_total}
 use Rattle.nmgc_snapshot_laws.specs.declared.event.Entry.{Entry}
-use Rattle.nmgc_heap_spec.specs.{Places.Place, Represents.Represents}
+use Rattle.nmgc_heap_spec.specs.{Objects.Place, Represents.Represents}
 use Rattle.nmgc_round.specs.{Events.Happening, Events.IsLegal, Events.done_by, Events.scans_in, View.Opening, View.Part, View.Seen, View.exclusive, Marking.marks_of, Marking.marks_after, Objects.Object, Objects.place_of, Objects.earlier, Objects.IsObject, Objects.IsIn, Objects.RepresentsInRound}
 use Rattle.nmgc_round.specs.Rule.{now, AllRead, Fits, Rests, IsOpening, ArePlaced, IsNew, IsQueued, AreKnown}
 

@@ -7,9 +7,9 @@ use Rattle.nmgc_world_spec.specs.{declared.value.Name.Name, declared.node.Node.N
 use Rattle.nmgc_world_spec.specs.declared.node.Kind.TheVariants as kind
 use Rattle.nmgc_world_spec.specs.declared.command.Command.TheVariants.{Num, Nil, Mov, Get, Set, Cas, Update, Force, Push, Pop, Deref, Finalise, NextFin, Show, Same, Yield, Collect, Full}
 use Rattle.nmgc_world_spec.specs.declared.command.Reply.TheVariants.{Fine, Yes, No, NoPointer, NoField, WrongKind, NotOwner, Fixed, Nothing}
-use Rattle.nmgc_object.specs.{Words.kind_number, Words.header_word, Words.name_word, Words.IsHeader, Words.IsName, declared.words.Header.Header, declared.words.TheConstants.TAG_UNIT, declared.size.TheConstants.HEADER_WORDS, declared.layout.TheConstants.SHARED_PLACE, Places.word_total}
+use Rattle.nmgc_object.specs.{Words.kind_number, Words.header_word, Words.name_word, Words.IsHeader, Words.IsName, Words.word_total, declared.words.Header.Header, declared.words.TheConstants.TAG_UNIT, declared.size.TheConstants.HEADER_WORDS, declared.layout.TheConstants.SHARED_PLACE}
 use Rattle.nmgc_snapshot_laws.specs.declared.event.Entry.{Entry}
-use Rattle.nmgc_heap_spec.specs.{Changes.MayChange, Shape.header_of, Shape.size_of}
+use Rattle.nmgc_heap_spec.specs.{Changes.MayChange, Objects.header_of, Objects.size_of}
 use Rattle.nmgc_round.specs.{Marking.marks_after, Ready.CanGive, Ready.CanLoad, Ready.Names, Ready.IsReadable, Ready.IsWritable, Ready.operand_word, Ready.first_of}
 use Rattle.nmgc_round.specs.View.{Answer, plain, word, FixedWord, Hand, Opening, Part, Seen, hand_now, word_of, changing, doing, loaded, answered}
 

@@ -3,7 +3,7 @@ use Rattle.std.specs.Prelude.{ℕ, ◌+◌, ◌/◌, ◌%◌, ◌==◌, ◌&&◌
 use Rattle.nmgc_world_spec.specs.{declared.value.Name.Name, declared.node.Node.Node, declared.node.Node.TheVariants.Thunk, World.World, World.node_of}
 use Rattle.nmgc_snapshot_laws.specs.{declared.event.Entry.Entry, State.State, State.is_listed, State.entry_of, Scan.fields_of}
 use Rattle.nmgc_object.specs.declared.size.TheConstants.{HEADER_WORDS}
-use Rattle.nmgc_heap_spec.specs.Places.{Place}
+use Rattle.nmgc_heap_spec.specs.Objects.{Place}
 use Rattle.nmgc_round.specs.View.{Scan, Opening}
 
 -- the marks: the marked names and the queue

@@ -4,10 +4,10 @@
 -- end of its words, and the words that never change. So objects that are no longer tracked keep their extent.
 use Rattle.std.specs.Prelude.{◌≡◌, ◌⊎◌, ℕ, ◌+◌, ◌<◌, ◌≤◌, List, [], ◌∷◌, length, slice_index, Contains, true, Some, if◌then◌else◌}
 use mathlib.Core.Logic.{inl, inr}
-use Rattle.nmgc_world_spec.specs.{declared.value.Name.Name, declared.value.Value.Value, declared.node.Node.Node, declared.node.Node.TheVariants.Thunk, declared.node.Node.TheVariants.Weak, declared.node.Parts.Parts, World.World, World.node_of, Known.IsSized, Wide.IsWide}
+use Rattle.nmgc_world_spec.specs.{declared.value.Name.Name, declared.value.Value.Value, declared.node.Node.Node, declared.node.Node.TheVariants.Thunk, declared.node.Node.TheVariants.Weak, declared.node.Parts.Parts, World.World, World.node_of, Known.IsSized, Reach.IsWide}
 use Rattle.nmgc_world_laws.specs.Holds.{has_result}
-use Rattle.nmgc_object.specs.{Words.header_word, Words.IsHeader, Places.word_total, declared.size.TheConstants.HEADER_WORDS}
-use Rattle.nmgc_heap_spec.specs.{Shape.header_of, Shape.size_of, Shape.slots_of, Shape.fixed_slots, Shape.free_slots, Tracked.IsTracked, Places.Place, Places.HasSlots, Places.LiesWell, Places.IsBetween, Places.HasZeros, Represents.IsNamed}
+use Rattle.nmgc_object.specs.{Words.header_word, Words.IsHeader, Words.word_total, declared.size.TheConstants.HEADER_WORDS}
+use Rattle.nmgc_heap_spec.specs.{Objects.header_of, Objects.size_of, Objects.slots_of, Objects.fixed_slots, Objects.free_slots, Objects.Place, Objects.HasSlots, Objects.LiesWell, Objects.IsBetween, Objects.HasZeros, Tracked.IsTracked, Represents.IsNamed}
 use Rattle.nmgc_round.specs.View.{Opening}
 
 -- an object of a round: its address, its name, and its first node: the node when the round began, if its name was tracked, or

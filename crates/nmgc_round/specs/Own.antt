@@ -3,10 +3,10 @@
 -- Only its maker pushes to a stack and pops off it. So a mutator's rows and the opening determine the words in the slots of
 -- its stacks. The opening has the words of the world's values, by the addresses of objects.
 use Rattle.std.specs.Prelude.{◌≡◌, ℕ, ◌+◌, ◌*◌, ◌==◌, List, [], ◌∷◌, ◌++◌, map, Option, Some, None, if◌then◌else◌}
-use Rattle.nmgc_world_spec.specs.{declared.value.Name.Name, declared.value.Value.Value, declared.node.Node.Node, declared.node.Node.TheVariants.Stack, Change.is_same_name, World.World, World.node_of}
+use Rattle.nmgc_world_spec.specs.{declared.value.Name.Name, declared.value.Value.Value, declared.node.Node.Node, declared.node.Node.TheVariants.Stack, World.is_same_name, World.World, World.node_of}
 use Rattle.nmgc_world_spec.specs.declared.value.Value.TheVariants as value
 use Rattle.nmgc_object.specs.declared.words.TheConstants.{NIL_WORD, ZERO_WORD}
-use Rattle.nmgc_heap_spec.specs.Places.{Place, ListMeans}
+use Rattle.nmgc_heap_spec.specs.Objects.{Place, ListMeans}
 use Rattle.nmgc_round.specs.{View.Slots, View.Hand, View.Opening, Objects.Object, Objects.IsObject, Objects.IsIn}
 
 -- the words of the stack at an address, from the bottom up, if it is in the list

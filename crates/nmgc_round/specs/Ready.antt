@@ -2,7 +2,7 @@
 -- for a load of a header or name, the mutator's finaliser queue may have it instead. The header on which the answer depends
 -- was loaded before, the command fits the layout, and word and field are the operands'.
 use Rattle.std.specs.Prelude.{◌≡◌, ◌≢◌, ℕ, ◌+◌, ◌-◌, ◌*◌, ◌<◌, ◌≤◌, ◌^◌, true, false, List, [], ◌∷◌, Contains, slice_get, Some}
-use Rattle.nmgc_world_spec.specs.{declared.node.Kind.Kind, declared.command.Operand.Operand, declared.command.Command.Command, declared.command.Command.TheVariants.Get, declared.command.Command.TheVariants.Set, Command.Fits, Known.IsMaking, Command.words_made, Step.shared_name}
+use Rattle.nmgc_world_spec.specs.{declared.node.Kind.Kind, declared.command.Operand.Operand, declared.command.Command.Command, declared.command.Command.TheVariants.Get, declared.command.Command.TheVariants.Set, World.Fits, World.words_made, World.shared_name, Known.IsMaking}
 use Rattle.nmgc_world_spec.specs.declared.node.Kind.TheVariants as kind
 use Rattle.nmgc_object.specs.{Words.header_word, Words.name_word, Words.IsHeader, declared.words.Header.Header, declared.size.TheConstants.HEADER_WORDS, declared.size.TheConstants.NAME_OFFSET}
 use Rattle.nmgc_snapshot_laws.specs.{declared.event.Entry.Entry, State.entry_of}

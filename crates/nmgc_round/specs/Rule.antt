@@ -2,10 +2,10 @@
 use Rattle.std.specs.Prelude.{◌≡◌, ◌⊎◌, ℕ, ◌+◌, ◌<◌, ◌≤◌, Bool, true, false, List, [], ◌∷◌, length, slice_index, Contains, Option, Some, None, IsSome}
 use mathlib.Core.Option.{some}
 use lib.ListN.{get_elem?}
-use Rattle.nmgc_world_spec.specs.{declared.value.Name.Name, declared.value.Value.Value, declared.node.Node.Node, declared.command.Command.Command, declared.command.Reply.Reply, declared.command.Reply.TheVariants.Given, World.World, World.state_of, World.node_of, World.serial_of, Step.shared_name, Owed.names_among, Wide.IsWide}
-use Rattle.nmgc_object.specs.{Layouts.IsLayout, Places.nursery_place, declared.layout.TheConstants.SHARED_PLACE, declared.size.TheConstants.HEADER_WORDS}
+use Rattle.nmgc_world_spec.specs.{declared.value.Name.Name, declared.value.Value.Value, declared.node.Node.Node, declared.command.Command.Command, declared.command.Reply.Reply, declared.command.Reply.TheVariants.Given, World.World, World.state_of, World.node_of, World.serial_of, World.shared_name, Reach.names_among, Reach.IsWide}
+use Rattle.nmgc_object.specs.{Layouts.IsLayout, Words.nursery_place, declared.layout.TheConstants.SHARED_PLACE, declared.size.TheConstants.HEADER_WORDS}
 use Rattle.nmgc_snapshot_laws.specs.{declared.event.Entry.Entry, State.State, State.names_of, Scan.fields_of}
-use Rattle.nmgc_heap_spec.specs.{Shape.header_of, Shape.size_of, Changes.MayChange, Places.Place, Places.Means, Places.ListMeans, Tracked.IsTracked}
+use Rattle.nmgc_heap_spec.specs.{Objects.header_of, Objects.size_of, Objects.Place, Objects.Means, Objects.ListMeans, Changes.MayChange, Tracked.IsTracked}
 use Rattle.nmgc_round.specs.{Events.Happening, Events.replay, Events.IsLegal, Events.done_by, Events.scans_in, Marking.marks_of, Marking.marks_after, Own.OwnSlots, Objects.Object, Objects.end_of, Objects.earlier, Objects.IsOld, Objects.IsLater, Objects.IsObject, Objects.IsIn, Objects.RepresentsInRound}
 use Rattle.nmgc_round.specs.View.{Answer, plain, word, DoneRow, Hand, FixedWord, UnbornWord, Scan, Opening, Part, Seen, exclusive, hand_now}
 use Rattle.nmgc_world_laws.specs.Holds.{has_result}

@@ -2,7 +2,7 @@
 use Rattle.std.specs.Prelude.{◌≡◌, ℕ, ◌<◌, false, List, [], length, Contains, Some}
 use Rattle.nmgc_world_spec.specs.{declared.node.Node.Node, Known.IsWorld, World.state_of, World.node_of, World.serial_of}
 use Rattle.nmgc_snapshot_laws.specs.{declared.event.Entry.Entry, State.names_of, State.unmarked}
-use Rattle.nmgc_heap_spec.specs.{Places.ListMeans, Represents.Represents, Represents.NoNode}
+use Rattle.nmgc_heap_spec.specs.{Objects.ListMeans, Represents.Represents, Represents.NoNode}
 use Rattle.nmgc_round.specs.{View.Hand, View.Opening, View.hand_of, Objects.Object, Objects.IsLater, Objects.IsSnapshot, Objects.earlier, Own.old_stacks, Rule.IsOpening, Rule.IsQueued}
 
 -- a hand that represents a mutator's state in the world, and lists the words of each stack there that it made

@@ -3,11 +3,11 @@
 -- A row has its answer as a word. The object of a pointer in it is known by the fixed words, once the seat has loaded the
 -- name there or allocated the object; so a row never changes.
 use Rattle.std.specs.Prelude.{ℕ, suc, ◌+◌, ◌*◌, ◌-◌, ◌/◌, ◌==◌, List, [], ◌∷◌, ◌++◌, map, drop, take, length, slice_index_or, slice_set, Bool, true, false, if◌then◌else◌}
-use Rattle.nmgc_world_spec.specs.{declared.command.Operand.Operand, declared.command.Operand.TheVariants.Register, declared.command.Operand.TheVariants.Shared, declared.command.Command.Command, declared.command.Reply.Reply, declared.command.Reply.TheVariants.Fine, declared.value.Name.Name, Command.words_made, World.new_world}
+use Rattle.nmgc_world_spec.specs.{declared.command.Operand.Operand, declared.command.Operand.TheVariants.Register, declared.command.Operand.TheVariants.Shared, declared.command.Command.Command, declared.command.Reply.Reply, declared.command.Reply.TheVariants.Fine, declared.value.Name.Name, World.words_made, World.new_world}
 use Rattle.nmgc_world_spec.specs.declared.command.Command.TheVariants.{Num, Nil, Mov, Con, Var, Arr, Thunk, Weak, Stack, Get, Set, Cas, Update, Force, Push, Pop, Deref, Finalise, NextFin, Show, Same, Yield, Collect, Full}
 use Rattle.nmgc_object.specs.{Words.name_word, declared.layout.Layout.Layout, declared.layout.TheConstants.SHARED_PLACE, declared.words.TheConstants.NIL_WORD, declared.words.TheConstants.ZERO_WORD}
 use Rattle.nmgc_snapshot_laws.specs.{declared.event.Entry.Entry, State.State, State.unmarked}
-use Rattle.nmgc_heap_spec.specs.Places.{Place}
+use Rattle.nmgc_heap_spec.specs.Objects.{Place}
 
 -- an answer as a seat knows it: a reply that gives no value, or the word of the value given
 pub data Answer : Type 0 where

@@ -9,7 +9,7 @@
 ghost use Rattle.std.specs.Prelude.{◌≡◌, ◌≢◌, ◌+◌, ◌<◌, ◌==◌, ℕ, true, List, [], ◌∷◌, ◌++◌, set, slice_index, length, map};
 ghost use mathlib.Core.Option.{some};
 ghost use lib.ListN.{get_elem?};
-ghost use Rattle.nmgc_world_spec.specs.{declared.command.Command.Command, declared.command.Reply.Reply, History.replayed, History.rows_of, History.IsLegal as IsLegalHistory};
+ghost use Rattle.nmgc_world_spec.specs.{declared.command.Command.Command, declared.command.Reply.Reply, Reach.replayed, Reach.rows_of, Reach.IsLegal as IsLegalHistory};
 ghost use Rattle.nmgc_object.specs.{declared.size.TheConstants.HEADER_WORDS, declared.layout.TheConstants.SHARED_PLACE, declared.layout.Layout.Layout, Layouts.IsLayout};
 ghost use Rattle.nmgc_snapshot_laws.specs.{State.State, Machine.Does};
 ghost use Rattle.nmgc_round.specs.{Own.OwnSlots, Rule.Keeps, Rule.Stopped, Added.Stays, Added.AddsCommand, Added.AddsIfMet, Added.AddsScan, Seating.CanSplit, Seating.keeps_rest, Seating.gives_first, Seating.mutates, Seating.collecting, Seating.together, Compare.CanExchange, Compare.exchanged, Compare.words_exchanged, Results.CanForce, Results.CanUpdate, Results.forced, Results.updated, Stacks.CanPeek, Stacks.CanSlot, Stacks.FindsSlot, Stacks.slot_swapped, Stacks.IsRefusedSlot, Stacks.slot_refused, Weaks.CanDeref, Weaks.CanFinalise, Weaks.weak_read, Weaks.weak_taken, Known.CanFix, Known.CanTake, Known.taken, Naming.AllReply, Empty.IsEmptyHeap, Empty.first_opening, Starting.CanOpen, Finishing.IsFinished, Finishing.HasAll, Finishing.HasEach, Finishing.Leaves};

@@ -4,7 +4,7 @@
 //! nothing is stored for it. A seat that is dropped before its round is over loses the words, since no other seat can then
 //! have every part. So everything that can fail is done before a round starts.
 ghost use Rattle.std.specs.Prelude.{◌≡◌, ◌<◌};
-ghost use Rattle.nmgc_object.specs.Places.{word_total};
+ghost use Rattle.nmgc_object.specs.Words.{word_total};
 
 use crate::plays::Rules;
 use crate::view::{Opened, Stored, View};

@@ -1,12 +1,12 @@
 -- The cycle in progress beside its world: its number, its beginning, and the segments that wait to be swept.
 use Rattle.std.specs.Prelude.{ℕ, ◌≡◌, ◌<◌, ◌≤◌, List}
-use Rattle.nmgc_world_spec.specs.{declared.command.Reply.Reply, World.World, History.Row}
+use Rattle.nmgc_world_spec.specs.{declared.command.Reply.Reply, World.World, Reach.Row}
 use Rattle.nmgc_segment.specs.declared.state.State.TheVariants as stands
 use Rattle.nmgc_object.specs.declared.layout.Layout.{Layout}
 use Rattle.nmgc_script.specs.declared.script.Config.{Config}
 use Rattle.nmgc_alloc.specs.AllocState.{AllocState, IsIn, NoneIs, cells}
 use Rattle.nmgc_stop_spec.specs.{Cycle.IsSweptIn, Cycle.Cycle, Waiting.AreAsNoted}
-use Rattle.nmgc_run_spec.specs.{Stop.Promotes, Round.IsRound, Run.Run, Run.IsRun, Run.last_state, State.Plan, State.State, State.Progress, State.idle, State.marking, State.sweeping, State.cycle_started}
+use Rattle.nmgc_run_spec.specs.Run.{Promotes, IsRound, Run, IsRun, last_state, Plan, State, Progress, idle, marking, sweeping, cycle_started}
 
 -- the cycle is the last one begun, at this stop or before, and its number isn't 0
 pub record IsLastBegun (c : Cycle) (number begun : ℕ) : Type 0 where

@@ -1,8 +1,8 @@
 -- The heap at the end of a run is the heap at its last stop.
 use Rattle.std.specs.Prelude.{◌≡◌, ◌↔◌, Some}
 use Rattle.nmgc_journal.specs.declared.report.Report.{Report}
-use Rattle.nmgc_script.specs.{Limits.FitsScript, Parts.HasFewCommands, declared.script.Script.Script}
-use Rattle.nmgc_run_spec.specs.{AtStop.HasHeapOfStop, End.HoldsAtEnd, Run.Run, Run.IsRun, Run.last_state, State.plan_of, State.layout_of, Stop.answer_of}
+use Rattle.nmgc_script.specs.{Parts.HasFewCommands, Spelling.FitsScript, declared.script.Script.Script}
+use Rattle.nmgc_run_spec.specs.{AtStop.HasHeapOfStop, Lawful.HoldsAtEnd, Run.Run, Run.IsRun, Run.last_state, Run.plan_of, Run.layout_of, Run.answer_of}
 
 -- the law that at the end of a run of a script within the limits, the heap at the end and the heap at a stop say the same
 abbrev pub EndsAreStops : Type 0

@@ -1,6 +1,6 @@
 -- No command changes the header of an object.
 use Rattle.std.specs.Prelude.{List}
-use Rattle.nmgc_world_spec.specs.{World.World, Known.IsWorld, History.Row, History.replayed}
+use Rattle.nmgc_world_spec.specs.{World.World, Known.IsWorld, Reach.Row, Reach.replayed}
 use Rattle.nmgc_world_laws.specs.Reachable.{CanReplay}
 use Rattle.nmgc_heap_spec.specs.Changes.{IsEarlier}
 

@@ -1,10 +1,10 @@
 -- The limits of a script in its runs: a layout, and numbers and objects within the limits at every state.
 use Rattle.std.specs.Prelude.{ℕ, ◌-◌, ◌<◌, ◌^◌, List, length, All}
-use Rattle.nmgc_world_spec.specs.{declared.command.Command.Command, declared.command.Reply.Reply, Command.Fits, History.Row}
+use Rattle.nmgc_world_spec.specs.{declared.command.Command.Command, declared.command.Reply.Reply, World.Fits, Reach.Row}
 use Rattle.nmgc_world_laws.specs.Limits.{IsWithin}
 use Rattle.nmgc_object.specs.Layouts.{IsLayout}
-use Rattle.nmgc_script.specs.{Limits.FitsScript, declared.script.Script.Script}
-use Rattle.nmgc_run_spec.specs.{Round.IsRound, Run.Run, Run.IsRun, Run.last_state, AfterRound.program_of, State.Plan, State.State, State.plan_of, State.layout_of}
+use Rattle.nmgc_script.specs.{Spelling.FitsScript, declared.script.Script.Script}
+use Rattle.nmgc_run_spec.specs.{Run.IsRound, Run.Run, Run.IsRun, Run.last_state, Run.Plan, Run.State, Run.plan_of, Run.layout_of, AfterRound.program_of}
 use Rattle.nmgc_run_laws.specs.Sound.{IsRunnable, IsSoundState}
 
 -- each command of the programs is within the limits of a script

@@ -1,12 +1,12 @@
 -- The places of a heap are its blocks in use: one statement, `AreBlocks`, for the run and for promotion.
 use Rattle.std.specs.Prelude.{ℕ, ◌≡◌, ◌↔◌, ◌<◌, List, Contains}
 use Rattle.nmgc_world_spec.specs.World.{World}
-use Rattle.nmgc_object.specs.{declared.layout.Layout.Layout, Places.nursery_place}
-use Rattle.nmgc_alloc.specs.{Numbered.Segments, Segments.IsSegments, AllocState.AllocState, Stands.StandsFor}
-use Rattle.nmgc_heap_spec.specs.{Places.Place, Represents.Represents, Represents.NoNode}
-use Rattle.nmgc_stop_spec.specs.{Occupied.AreBlocks, Placed.IsPlaceAtStop}
+use Rattle.nmgc_object.specs.{declared.layout.Layout.Layout, Words.nursery_place}
+use Rattle.nmgc_alloc.specs.{AllocState.Segments, AllocState.AllocState, AllocState.StandsFor, Segments.IsSegments}
+use Rattle.nmgc_heap_spec.specs.{Objects.Place, Represents.Represents, Represents.NoNode}
+use Rattle.nmgc_stop_spec.specs.{Occupied.AreBlocks, Cycle.IsPlaceAtStop}
 use Rattle.nmgc_journal.specs.declared.report.MutatorEnd.{MutatorEnd}
-use Rattle.nmgc_run_spec.specs.{State.State, Heap.HoldsAtStop, AfterRound.HoldsAfterRound, End.FitBlocks}
+use Rattle.nmgc_run_spec.specs.{Run.State, Heap.HoldsAtStop, AfterRound.HoldsAfterRound, Lawful.FitBlocks}
 
 -- the law that at a stop the places are the blocks in use
 abbrev pub BlocksAtStop : Type 0

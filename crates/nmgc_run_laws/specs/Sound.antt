@@ -3,7 +3,7 @@
 -- A cycle that is marking began with a snapshot, and its rows lead from the snapshot to the world. A cycle that is sweeping
 -- was closed, and commands came since. Waiting segments hold only names of the snapshot. Tracked names except g have blocks.
 use Rattle.std.specs.Prelude.{ℕ, ◌≡◌, ◌≢◌, ◌+◌, ◌-◌, ◌<◌, ◌≤◌, ◌^◌, List, length, IsSome, All, Contains}
-use Rattle.nmgc_world_spec.specs.{Known.HasRegisters, declared.value.Name.Name, declared.command.Command.Command, declared.command.Reply.Reply, World.World, Known.IsWorld, World.serial_of, World.node_of, Step.shared_name, History.Row, History.replayed, Reach.Lists, Reach.closed}
+use Rattle.nmgc_world_spec.specs.{Known.HasRegisters, declared.value.Name.Name, declared.command.Command.Command, declared.command.Reply.Reply, World.World, World.serial_of, World.node_of, World.shared_name, Known.IsWorld, Reach.Row, Reach.replayed, Reach.Lists, Reach.closed}
 use Rattle.nmgc_limits.specs.declared.mutators.TheConstants.{MAKERS}
 use Rattle.nmgc_world_laws.specs.Reachable.{CanReplay, IsSound}
 use Rattle.nmgc_segment.specs.declared.state.State.TheVariants as stands
@@ -12,7 +12,7 @@ use Rattle.nmgc_alloc.specs.{AllocState.AllocState, Invariant.IsAllocState, Inva
 use Rattle.nmgc_heap_spec.specs.{Changes.IsEarlier, Tracked.IsTracked}
 use Rattle.nmgc_stop_spec.specs.Cycle.{IsDeadIn, Cycle}
 use Rattle.nmgc_stop_spec.specs.Kept.{interval_of}
-use Rattle.nmgc_run_spec.specs.{Heap.snapshots, Round.IsRound, Run.Run, Run.IsRun, Run.last_state, AfterRound.program_of, State.Plan, State.State, State.Progress, State.idle, State.marking, State.sweeping, State.layout_of}
+use Rattle.nmgc_run_spec.specs.{Heap.snapshots, Run.IsRound, Run.Run, Run.IsRun, Run.last_state, Run.Plan, Run.State, Run.Progress, Run.idle, Run.marking, Run.sweeping, Run.layout_of, AfterRound.program_of}
 
 -- a runnable plan: it has one to `MAKERS` programs. Their registers exist, and they are short enough for serials of 32 bits
 pub record IsRunnable (plan : Plan) : Type 0 where

@@ -1,12 +1,15 @@
 -- Laws of runs, as statements. The functions of `laws` prove them.
 use Rattle.std.specs.Prelude.{ℕ, ◌≡◌, ◌≤◌, ◌↔◌, ◌+◌, ◌-◌, ◌*◌, ◌/◌, ◌^◌, List, [], ◌∷◌, ◌++◌, length, drop, slice_index_or, count_by, All, Some}
-use Rattle.nmgc_object.specs.{Layouts.IsLayout, Places.class_count, declared.layout.Layout.Layout, declared.size.TheConstants.DENSE_CLASS, declared.size.TheConstants.DENSE_WORDS}
+use Rattle.nmgc_object.specs.{Layouts.IsLayout, Words.class_count, declared.layout.Layout.Layout, declared.size.TheConstants.DENSE_CLASS, declared.size.TheConstants.DENSE_WORDS}
 use Rattle.nmgc_segment.specs.declared.state.State.TheVariants as stands
 use Rattle.nmgc_segment.specs.Segment.{Segment}
-use Rattle.nmgc_alloc.specs.Numbered.{is}
+use Rattle.nmgc_alloc.specs.AllocState.{is}
 use Rattle.nmgc_journal.specs.{declared.report.RoundRows.RoundRows, declared.report.Report.Report, declared.report.StopRow.StopRow, declared.report.CycleRow.CycleRow, declared.report.End.End}
-use Rattle.nmgc_script.specs.{Limits.FitsScript, Limits.upgraded, declared.script.Script.Script, Parts.HasFewCommands}
-use Rattle.nmgc_run_spec.specs.{AfterRound.program_of, State.Plan, Stop.answer_of, Lawful.IsLawful, Crowded.IsRunOf, Run.Run, Run.Turn, Run.IsRun, Run.IsTurn, Run.AreRowsOf, Run.last_state, AfterRound.with_turn}
+use Rattle.nmgc_script.specs.{Spelling.FitsScript, Spelling.upgraded, declared.script.Script.Script, Parts.HasFewCommands}
+use Rattle.nmgc_run_spec.specs.{AfterRound.program_of, Run.Plan, Run.answer_of, Run.Run, Run.Turn, Run.IsRun, Run.IsTurn, Run.AreRowsOf, Run.last_state, Lawful.IsLawful, Lawful.IsRunOf, AfterRound.with_turn, Run.IsFoundObject, Run.IsSteadyObject, Run.owed}
+use Rattle.nmgc_world_spec.specs.{declared.value.Name.Name, Reach.Row, Reach.replayed}
+use Rattle.nmgc_world_laws.specs.Reachable.{IsSound}
+use Rattle.nmgc_stop_spec.specs.{Cycle.Cycle, Kept.interval_of}
 
 -- the law that a layout has the classes of dense blocks, and one for each doubling from `DENSE_WORDS` to a segment's words
 abbrev pub ClassesAreCounted : Type 0
@@ -74,3 +77,8 @@ LastIsOfTurn = (run : Run) (turn : Turn) → last_state (with_turn run turn) ≡
 abbrev pub LawfulAreOfRuns : Type 0
 LawfulAreOfRuns = (script : Script) (report : Report) → FitsScript script → HasFewCommands script → (lawful : IsLawful script report) →
     (run : IsRunOf script report) × (run.lawful ≡ lawful)
+
+-- the law that a cycle's found objects are exactly its steady objects, if the commands of its last round owed nothing
+abbrev pub FoundIsSteady : Type 0
+FoundIsSteady = (c : Cycle) (last : List Row) → IsSound (interval_of c) → c.rows ≡ c.earlier ++ last → owed (replayed c.snapshot c.earlier) last ≡ [] →
+    (name : Name) → IsFoundObject c name ↔ IsSteadyObject c name

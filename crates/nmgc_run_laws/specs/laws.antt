@@ -1,3 +1,4 @@
+pub mod Bounds
 pub mod Closings
 pub mod Common
 pub mod Course

@@ -1,5 +1,5 @@
 //! Laws that test the definitions of `nmgc_run_spec`, as contracts of functions. A body only calls the laws that it needs.
-ghost use Rattle.nmgc_run_laws.specs.Statements.{ClassesAreCounted, RunGoesOn, AddsOneTurn, LastIsOfTurn, LeftIsDetermined, FreeIsReal, VersionIsNothing, UpgradeIsNothing, EachCycleHasItsRow, ClosingsAreSoon, LawfulAreOfRuns};
+ghost use Rattle.nmgc_run_laws.specs.Statements.{ClassesAreCounted, RunGoesOn, AddsOneTurn, LastIsOfTurn, LeftIsDetermined, FreeIsReal, VersionIsNothing, UpgradeIsNothing, EachCycleHasItsRow, ClosingsAreSoon, LawfulAreOfRuns, FoundIsSteady};
 ghost use Rattle.nmgc_run_laws.specs.{Ends.EndsAreStops, Places.BlocksAtStop, Places.BlocksAfterRound, Places.BlocksArePlaces, Sound.StatesAreSound, Sound.RoundsAreSound, Sound.TrackedHaveBlocks, Course.RunsAreInCourse, Course.RoundsStayInCourse, Course.PromotionsStayInCourse, Course.CyclesBeginInCourse, Limits.ScriptsHaveGoodPlans, Limits.StatesAreWithin, Limits.RoundsAreWithin};
 
 use nmgc_alloc::laws::counts_are_equal;
@@ -100,4 +100,10 @@ pub fn ends_are_stops()
 /// the last stop is crowded (`IsCrowded`).
 pub fn lawful_reports_are_of_runs()
     ensures { LawfulAreOfRuns }
+{}
+
+/// Proves that a cycle's found objects are exactly its steady objects at a stop, if the commands of the round before the stop
+/// owed nothing. So the two bounds of the closing count the same objects there.
+pub fn found_objects_are_steady()
+    ensures { FoundIsSteady }
 {}

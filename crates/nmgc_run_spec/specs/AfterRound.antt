@@ -1,12 +1,12 @@
 -- The heap after a round, a run with one more round, and a mutator's program: for the contracts of the steps of a run.
 use Rattle.std.specs.Prelude.{ℕ, ◌⊎◌, List, [], ◌∷◌, Contains, ◌++◌, slice_index_or}
 use Rattle.nmgc_world_spec.specs.{declared.value.Name.Name, World.World, declared.command.Command.Command}
-use Rattle.nmgc_object.specs.{Places.InNursery, declared.layout.Layout.Layout}
-use Rattle.nmgc_alloc.specs.Numbered.{Segments}
-use Rattle.nmgc_heap_spec.specs.{Places.Place, Roots.ListsWeaks}
-use Rattle.nmgc_stop_spec.specs.{Promoted.IsYoung, Placed.IsPlaceAtStop}
+use Rattle.nmgc_object.specs.{Words.InNursery, declared.layout.Layout.Layout}
+use Rattle.nmgc_alloc.specs.AllocState.{Segments}
+use Rattle.nmgc_heap_spec.specs.{Objects.Place, Roots.ListsWeaks}
+use Rattle.nmgc_stop_spec.specs.Cycle.{IsYoung, IsPlaceAtStop}
 use Rattle.nmgc_journal.specs.declared.report.MutatorEnd.{MutatorEnd}
-use Rattle.nmgc_run_spec.specs.{State.State, Heap.snapshots, Heap.HeapStandsFor, Run.Turn, Run.Run}
+use Rattle.nmgc_run_spec.specs.{Run.State, Run.Turn, Run.Run, Heap.snapshots, Heap.HeapStandsFor}
 
 -- the place of an object that the round made in its maker's nursery
 pub record IsBornPlace (layout : Layout) (began w : World) (p : Place) : Type 0 where

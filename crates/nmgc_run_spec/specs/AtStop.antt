@@ -1,9 +1,9 @@
 -- A lawful report with its heap stated as at any stop. By a law of `nmgc_run_laws`, `Ends.EndsAreStops`, it is lawful.
 use Rattle.std.specs.Prelude.{◌≡◌, List, map, Some}
 use Rattle.nmgc_object.specs.declared.layout.Layout.{Layout}
-use Rattle.nmgc_heap_spec.specs.Places.{Place}
+use Rattle.nmgc_heap_spec.specs.Objects.{Place}
 use Rattle.nmgc_journal.specs.declared.report.Report.{Report}
-use Rattle.nmgc_run_spec.specs.{State.Plan, State.State, State.layout_of, Stop.answer_of, Run.Run, Run.IsRun, Run.AreRowsOf, Run.last_state, Heap.HoldsAtStop}
+use Rattle.nmgc_run_spec.specs.{Run.Plan, Run.State, Run.layout_of, Run.answer_of, Run.Run, Run.IsRun, Run.AreRowsOf, Run.last_state, Heap.HoldsAtStop}
 
 -- the report has the heap of a stop with this state, and the names of its listed weak pointers
 abbrev pub HasHeapOfStop : Layout → State → Report → Type 0

@@ -2,12 +2,12 @@
 use Rattle.std.specs.Prelude.{ℕ, ◌≡◌, ◌↔◌, ◌≤◌, List, [], ◌∷◌, length, map, flat_map, Some, Contains, All}
 use Rattle.nmgc_limits.specs.declared.mutators.TheConstants.{REGISTERS}
 use Rattle.nmgc_world_spec.specs.{declared.value.Name.Name, declared.node.Node.Node, World.World, World.node_of}
-use Rattle.nmgc_object.specs.{Size.block_size, declared.layout.Layout.Layout}
-use Rattle.nmgc_alloc.specs.{Numbered.Segments, AllocState.AllocState, AllocState.LiesIn, AllocState.cells, Stands.StandsFor}
-use Rattle.nmgc_heap_spec.specs.{Shape.size_of, Places.Place, Represents.Represents, Represents.NoNode, Roots.RepresentsRoots, Roots.ListsWeaks}
-use Rattle.nmgc_stop_spec.specs.Placed.{IsPlaceAtStop}
+use Rattle.nmgc_object.specs.{Words.block_size, declared.layout.Layout.Layout}
+use Rattle.nmgc_alloc.specs.AllocState.{Segments, AllocState, LiesIn, cells, StandsFor}
+use Rattle.nmgc_heap_spec.specs.{Objects.size_of, Objects.Place, Represents.Represents, Represents.NoNode, Roots.RepresentsRoots, Roots.ListsWeaks}
+use Rattle.nmgc_stop_spec.specs.Cycle.{IsPlaceAtStop}
 use Rattle.nmgc_journal.specs.declared.report.MutatorEnd.{MutatorEnd}
-use Rattle.nmgc_run_spec.specs.State.{State, Progress, marking}
+use Rattle.nmgc_run_spec.specs.Run.{State, Progress, marking}
 
 -- the worlds that the collector still uses: the snapshot of a cycle that is marking, and otherwise none
 abbrev pub snapshots : Progress → List World

@@ -1,13 +1,6 @@
 pub mod AfterRound
 pub mod AtStop
-pub mod Closing
-pub mod Crowded
-pub mod End
 pub mod Heap
 pub mod Lawful
-pub mod Round
 pub mod Run
-pub mod Slice
-pub mod State
-pub mod Stop
 pub mod Terms

@@ -2,14 +2,14 @@
 use Rattle.std.specs.Prelude.{ℕ, ◌≡◌, ◌≤◌, List, [], length, map, flat_map, Some, Bool, not, ◌&&◌, nat_lt, nat_le, slice_index_or, min}
 use Rattle.std.specs.List.{list_any}
 use Rattle.nmgc_limits.specs.declared.mutators.TheConstants.{REGISTERS}
-use Rattle.nmgc_world_spec.specs.{declared.command.Command.Command, declared.command.Reply.Reply, declared.value.Name.Name, declared.node.Node.Node, Command.words_made, World.World, World.node_of, History.Row, Reach.IsReached, Reach.IsRoot}
+use Rattle.nmgc_world_spec.specs.{declared.command.Command.Command, declared.command.Reply.Reply, declared.value.Name.Name, declared.node.Node.Node, World.words_made, World.World, World.node_of, Reach.Row, Reach.IsReached, Reach.IsRoot}
 use Rattle.nmgc_segment.specs.declared.state.State.TheVariants as stands
-use Rattle.nmgc_object.specs.{Places.reserve_count, Size.block_size}
+use Rattle.nmgc_object.specs.Words.{reserve_count, block_size}
 use Rattle.nmgc_alloc.specs.AllocState.{AllocState, LiesIn, all_retired, cells, count_in}
-use Rattle.nmgc_heap_spec.specs.Shape.{size_of}
+use Rattle.nmgc_heap_spec.specs.Objects.{size_of}
 use Rattle.nmgc_stop_spec.specs.Cycle.{Cycle, ExceptShared}
 use Rattle.nmgc_journal.specs.declared.report.MutatorEnd.{MutatorEnd}
-use Rattle.nmgc_run_spec.specs.{Closing.IsSoon, Closing.IsPaced, Round.answered, Slice.has_left, State.Plan, State.State, State.Progress, State.SweepsIn, State.is_idle, State.layout_of}
+use Rattle.nmgc_run_spec.specs.Run.{IsSoon, IsPaced, answered, has_left, Plan, State, Progress, SweepsIn, is_idle, layout_of}
 
 -- a slice that may have `commands` more commands, with `words` words left in the nursery, has room for this command
 abbrev pub is_next : ℕ → ℕ → Command → Bool

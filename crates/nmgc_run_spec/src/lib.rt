@@ -4,12 +4,10 @@
 //! cycle is judged by its snapshot. Nothing here runs.
 //!
 //! `specs/`, from the bottom up:
-//! - `State`: the world of the reference heap, the allocation state, the collector's progress, and the rest of the programs.
-//!   `Slice`, `Round`: a mutator's part of a round, and the state after a round.
-//! - `Closing`, `Stop`: the rules of a stop. By the world and the allocation state alone, `nmgc_stop_spec` below defines
-//!   which objects are promoted (`Promoted`), and which objects a cycle judges, with its findings (`Cycle`).
-//! - `Run`, `Heap`, `Lawful`: a whole run and its report; when words, segments and roots represent a state; and the lawful
-//!   report, the subject of the headline theorem. `Crowded`: when a run ends as heap full.
+//! - `Run`: a run and its report: states, a mutator's part of a round, rounds, the closing of a cycle, and stops.
+//!   `nmgc_stop_spec` below defines which objects are promoted and which objects a cycle frees (`Cycle`).
+//! - `Lawful`: the heap at the end of a run, the lawful report, which is the subject of the headline theorem, and the cause
+//!   of a full heap. The other files have terms for contracts, laws and proofs; no clause of the program reaches them.
 //!
 //! `nmgc_run_laws` has the laws of every run, and `nmgc_collector_laws` the invariant of a running collector.
 //!

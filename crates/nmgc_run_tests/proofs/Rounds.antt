@@ -1,6 +1,6 @@
 -- A collector that did a round has a line for its first mutator.
 use Rattle.std.proofs.Common.{ℕ, ◌≤◌, length, sym, subst}
-use Rattle.nmgc_script.specs.{declared.script.Script.Script, Limits.IsInLimits}
+use Rattle.nmgc_script.specs.{declared.script.Script.Script, Spelling.IsInLimits}
 use Rattle.nmgc_cycle.specs.{declared.collector.Collector.Collector, Keeps.DidRound}
 
 pub has_line : (script : Script) (old new : Collector) → IsInLimits script → DidRound script old new → 1 ≤ length new.inbox

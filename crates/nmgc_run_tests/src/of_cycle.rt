@@ -4,7 +4,7 @@
 //! A gate gives up after a long spin, and notes it, so a round that has its mutators on one thread fails the test and doesn't
 //! hang. The numbers read under a gate are checked too, so a round whose threads only pass the gate fails as well.
 ghost use Rattle.std.specs.Prelude.{IfOk};
-ghost use Rattle.nmgc_script.specs.Limits.{IsInLimits};
+ghost use Rattle.nmgc_script.specs.Spelling.{IsInLimits};
 
 use crate::worked::{
     EXCHANGE, EXCHANGE_REPORT, FIRST_UPDATED_REPORT, OVERWRITTEN, OVERWRITTEN_REPORT, RACE,

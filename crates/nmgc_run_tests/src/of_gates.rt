@@ -4,7 +4,7 @@
 //! doesn't hang. It counts the workers that came: so a worker that passes no gate fails the test, and so does a worker that
 //! passes it under another number.
 ghost use Rattle.std.specs.Prelude.{◌≤◌, length, IfOk, IfSome};
-ghost use Rattle.nmgc_script.specs.Limits.{IsInLimits};
+ghost use Rattle.nmgc_script.specs.Spelling.{IsInLimits};
 
 use crate::of_cycle::{Meet, reported, script_of};
 use crate::worked::{EXCHANGE, THREE_SEGMENTS, WAITING};

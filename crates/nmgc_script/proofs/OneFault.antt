@@ -2,7 +2,7 @@
 use Rattle.std.proofs.{Common.◌≡◌, Common.◌≢◌, Common.◌<◌, Common.◌^◌, Common.ℕ, Common.zero, Common.suc, Common.List, Common.[], Common.◌∷◌, Common.refl, Common.sym, Common.ap, Common.subst, Common.◌∙◌, Common.arith, Common.inl, Common.inr, Common.codes, Common.decimal, Common.Ok, lemmas.Bool.cases_order, lemmas.Fmt.decimal_injective, lemmas.List.append_cancel_left}
 use Rattle.nmgc_world_spec.specs.declared.command.Command.{Command}
 use Rattle.nmgc_io.specs.{Text.tokens_of, Text.spaced, laws.Parts.spaced-tokens_of}
-use Rattle.nmgc_script.specs.{declared.fault.Cause.Cause, declared.script.Config.Config, declared.script.Script.Script, declared.version.Version.Version, laws.Versions.IsUsable, laws.Versions.usable_version, Limits.FitsConfig, Limits.IsVersion, Spelling.heap_words, Parts.version_words, Spelling.Spells, Text.kept_lines, Parts.end_of, Faults.order_of, Faults.IsFirstFault, Faults.begun_with, Faults.IsFaultInRest, Faults.IsFaultFromHeap, Faults.IsFaultOfText, Reading.heap_words_at, Reading.section_at, Reading.entry_at, Reading.begun_after, Reading.at_line, Reading.rest_at, Reading.programs_at, Reading.threads_at, Reading.version_at, Reading.heap_at, Reading.script_at, laws.Lines.tokens_of-line, laws.Lines.heap_line_words, laws.Versions.version_is, Limits.version_of}
+use Rattle.nmgc_script.specs.{declared.fault.Cause.Cause, declared.script.Config.Config, declared.script.Script.Script, declared.version.Version.Version, laws.Versions.IsUsable, laws.Versions.usable_version, Spelling.FitsConfig, Spelling.IsVersion, Spelling.heap_words, Spelling.Spells, Spelling.kept_lines, Spelling.order_of, Spelling.IsFirstFault, Spelling.begun_with, Spelling.IsFaultInRest, Spelling.IsFaultFromHeap, Spelling.IsFaultOfText, Spelling.version_of, Parts.version_words, Parts.end_of, Reading.heap_words_at, Reading.section_at, Reading.entry_at, Reading.begun_after, Reading.at_line, Reading.rest_at, Reading.programs_at, Reading.threads_at, Reading.version_at, Reading.heap_at, Reading.script_at, laws.Lines.tokens_of-line, laws.Lines.heap_line_words, laws.Versions.version_is}
 use Rattle.nmgc_script.specs.declared.fault.Cause.TheVariants as cause
 use Rattle.nmgc_script.proofs.{WordLaws.bind_ok, WordLaws.ok_is, ConfigLaws.heap_takes, ConfigLaws.heap_again, SectionLaws.at_line_ok, SectionLaws.section_takes, ScriptLaws.script_again, ScriptLaws.version_found, FaultLaws.entry_good, FaultLaws.section_faultless, FaultLaws.some_after}
 

@@ -1,9 +1,9 @@
 -- The printed text is the plain spelling, and is read back.
 use Rattle.std.proofs.{Common.◌≡◌, Common.◌<◌, Common.◌+◌, Common.◌^◌, Common.ℕ, Common.List, Common.[], Common.◌∷◌, Common.◌++◌, Common.map, Common.length, Common.refl, Common.sym, Common.ap, Common.◌∙◌, Common.arith, Common.append_assoc, lemmas.List.Elements.recursion_from_All}
 use Rattle.std.specs.List.{AllByRecursion, All}
-use Rattle.nmgc_world_spec.specs.{declared.command.Command.Command, Command.Fits}
+use Rattle.nmgc_world_spec.specs.{declared.command.Command.Command, World.Fits}
 use Rattle.nmgc_io.specs.{Text.lines_of, laws.Parts.cut_on, laws.Parts.lines_cut, Spaced.after_spaces, Text.spaced, Text.ended, laws.Parts.spaced_after}
-use Rattle.nmgc_script.specs.{declared.script.Script.Script, Limits.FitsScript, laws.Versions.threads_few, laws.Versions.usable_number, Text.kept_from, Spelling.command_words, Spelling.heap_words, Parts.section_words, Parts.version_words, Parts.program_lines, Spelling.section_lines, Spelling.script_lines, Parts.plain, Spelling.Spells, laws.Lines.IsKept, laws.Lines.made_kept, laws.Lines.command_line, laws.Lines.heap_line_words, laws.Lines.section_line_words, laws.Lines.version_line_words, Limits.version_of}
+use Rattle.nmgc_script.specs.{declared.script.Script.Script, Spelling.FitsScript, Spelling.kept_from, Spelling.command_words, Spelling.heap_words, Spelling.section_lines, Spelling.script_lines, Spelling.Spells, Spelling.version_of, laws.Versions.threads_few, laws.Versions.usable_number, Parts.section_words, Parts.version_words, Parts.program_lines, Parts.plain, laws.Lines.IsKept, laws.Lines.made_kept, laws.Lines.command_line, laws.Lines.heap_line_words, laws.Lines.section_line_words, laws.Lines.version_line_words}
 use Rattle.nmgc_script.proofs.SectionLaws.{text}
 
 pub after_append : (xs ys : List (List ℕ)) → after_spaces (xs ++ ys) ≡ after_spaces xs ++ after_spaces ys

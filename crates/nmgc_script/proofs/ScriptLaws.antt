@@ -1,9 +1,9 @@
 -- A script is read exactly from its lines.
 use Rattle.std.proofs.{Common.◌≡◌, Common.◌≤◌, Common.◌^◌, Common.◌<◌, Common.◌+◌, Common.ℕ, Common.List, Common.[], Common.◌∷◌, Common.◌++◌, Common.map, Common.length, Common.refl, Common.sym, Common.ap, Common.subst, Common.◌∙◌, Common.arith, Common.inl, Common.inr, Common.Bool, Common.true, Common.false, Common.cond, Common.eqb, Common.suc, Common.Result, Common.Ok, Common.Err, Common.IfOk, Common.MatchResult, Common.codes, lemmas.Bool.Decides.eqb_tells, lemmas.List.length-map, lemmas.List.length-append, lemmas.List.Sums.sum_by-cons, lemmas.List.Elements.All-from_recursion, lemmas.List.Elements.All-weaker, lemmas.List.Elements.recursion_from_All, lemmas.Slice.Eq.bytes_eq-Decides}
 use Rattle.std.specs.{List.AllByRecursion, List.All, List.sum_by, Str.bytes_eq}
-use Rattle.nmgc_world_spec.specs.{declared.command.Command.Command, Command.Fits, Command.HasRegistersBelow}
+use Rattle.nmgc_world_spec.specs.{declared.command.Command.Command, World.Fits, World.HasRegistersBelow}
 use Rattle.nmgc_io.specs.{Text.lines_of, Text.tokens_of, Text.onto_first, Text.is_blank_or_comment, Text.spaced, laws.Parts.spaced-tokens_of}
-use Rattle.nmgc_script.specs.{declared.fault.Cause.Cause, declared.fault.ScriptFault.ScriptFault, declared.script.Config.Config, declared.script.Script.Script, declared.version.Version.Version, laws.Versions.IsUsable, laws.Versions.usable_version, laws.Versions.usable_number, laws.Versions.version_is, Limits.FitsConfig, Limits.FitsScript, Limits.IsVersion, Parts.total_words, Limits.version_1, Limits.version_2, Limits.version_of, Text.kept_from, Text.kept_lines, Parts.end_of, Spelling.heap_words, Parts.section_words, Parts.version_words, Spelling.command_words, Parts.program_lines, Spelling.section_lines, Spelling.script_lines, Spelling.Spells, Reading.heap_words_at, Reading.section_at, Reading.rest_at, Reading.programs_at, Reading.threads_at, Reading.version_at, Reading.heap_at, Reading.script_at, Reading.at_line, Reading.GivesAt, laws.Lines.tokens_of-line, laws.Lines.heap_line_words, laws.Lines.section_line_words, laws.Lines.first_line, laws.Lines.second_line, laws.Versions.numbered, Limits.version_3, laws.Lines.third_line}
+use Rattle.nmgc_script.specs.{declared.fault.Cause.Cause, declared.fault.ScriptFault.ScriptFault, declared.script.Config.Config, declared.script.Script.Script, declared.version.Version.Version, laws.Versions.IsUsable, laws.Versions.usable_version, laws.Versions.usable_number, laws.Versions.version_is, Spelling.FitsConfig, Spelling.FitsScript, Spelling.IsVersion, Spelling.version_1, Spelling.version_2, Spelling.version_of, Spelling.kept_from, Spelling.kept_lines, Spelling.heap_words, Spelling.command_words, Spelling.section_lines, Spelling.script_lines, Spelling.Spells, Spelling.version_3, Parts.total_words, Parts.end_of, Parts.section_words, Parts.version_words, Parts.program_lines, Reading.heap_words_at, Reading.section_at, Reading.rest_at, Reading.programs_at, Reading.threads_at, Reading.version_at, Reading.heap_at, Reading.script_at, Reading.at_line, Reading.GivesAt, laws.Lines.tokens_of-line, laws.Lines.heap_line_words, laws.Lines.section_line_words, laws.Lines.first_line, laws.Lines.second_line, laws.Versions.numbered, laws.Lines.third_line}
 use Rattle.nmgc_script.specs.declared.fault.Cause.TheVariants as cause
 use Rattle.nmgc_script.specs.declared.fault.ScriptFault.TheVariants as script_fault
 use Rattle.nmgc_script.specs.declared.sections.Entry.TheVariants as entry

@@ -1,10 +1,6 @@
-pub mod Bench
-pub mod Faults
-pub mod Limits
 pub mod Parts
 pub mod Printing
 pub mod Reading
 pub mod Results
 pub mod Spelling
-pub mod Text
 pub mod laws

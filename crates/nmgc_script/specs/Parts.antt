@@ -3,7 +3,7 @@ use Rattle.std.specs.Prelude.{ℕ, ◌+◌, ◌*◌, ◌≤◌, List, ◌∷◌,
 use Rattle.nmgc_io.specs.Text.{spaced, ended, lines_of}
 use Rattle.nmgc_limits.specs.Limits.{most_script_bytes}
 use Rattle.nmgc_world_spec.specs.{declared.command.Operand.TheVariants.Register, declared.command.Command.Command, declared.command.Command.TheVariants.Con}
-use Rattle.nmgc_script.specs.{declared.script.Config.Config, declared.script.Script.Script, declared.verbs.Verb.Verb, declared.bench.TheConstants.MAX_BATCHES, Bench.batch, Bench.repeated, Limits.version_2, Spelling.command_words, Spelling.script_lines}
+use Rattle.nmgc_script.specs.{declared.script.Config.Config, declared.script.Script.Script, declared.verbs.Verb.Verb, declared.bench.TheConstants.MAX_BATCHES, Spelling.batch, Spelling.repeated, Spelling.version_2, Spelling.command_words, Spelling.script_lines}
 use Rattle.nmgc_script.specs.declared.verbs.Verb.TheVariants as verb
 
 -- the name of a verb

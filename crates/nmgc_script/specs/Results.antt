@@ -1,6 +1,6 @@
 -- The result for bytes that spell no script.
 use Rattle.std.specs.Prelude.{ℕ, List}
-use Rattle.nmgc_script.specs.{declared.fault.ScriptFault.ScriptFault, Text.kept_lines, Parts.end_of, Faults.IsFaultOfText}
+use Rattle.nmgc_script.specs.{declared.fault.ScriptFault.ScriptFault, Spelling.kept_lines, Spelling.IsFaultOfText, Parts.end_of}
 use Rattle.nmgc_script.specs.declared.fault.ScriptFault.TheVariants as script_fault
 
 -- the report for bytes that spell no script: the first bad line and its first cause

@@ -3,10 +3,10 @@
 //! Each of four mutators makes list after list. It keeps the last list in a slot of its own in the shared array. So no
 //! mutator sees an effect of another, and each run of the script gives the same report. The cells of a list fill a nursery
 //! exactly, and one segment after promotion. The quota exceeds the number of objects, so a cycle that begins at one stop is
-//! closed at the next. `specs/Bench.antt` is the script. The code appends its commands in order, into memory that is
+//! closed at the next. `specs/Spelling.antt` is the script. The code appends its commands in order, into memory that is
 //! allocated once. Easy to get wrong: a batch begins with nil in its register, or its list would end in the list before.
 ghost use Rattle.std.specs.Prelude.{◌≡◌, ◌≤◌, ◌++◌, replicate, IfOk, OnOk};
-ghost use Rattle.nmgc_script.specs.{Parts.most_batches, Parts.cell, Bench.batch, Parts.bench_program, Bench.bench_script, Limits.FitsScript, Parts.HasFewCommands};
+ghost use Rattle.nmgc_script.specs.{Parts.most_batches, Parts.cell, Spelling.batch, Spelling.bench_script, Spelling.FitsScript, Parts.bench_program, Parts.HasFewCommands};
 
 use crate::{Config, Script};
 use nmgc_commands::{FixedOperands, Form, PackedCommand};

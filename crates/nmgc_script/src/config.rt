@@ -3,7 +3,7 @@
 //! Its six numbers are read from left to right. All its faults have one cause, so the order isn't visible. Easy to get wrong:
 //! the least number of words of a nursery is the number of words of a segment, which the same line gives.
 ghost use Rattle.std.specs.Prelude.{◌≡◌, map, IfOk};
-ghost use Rattle.nmgc_script.specs.{Limits.FitsConfig, Reading.Gives, Reading.between_at, Reading.segment_size_at, Reading.sizes_at, Reading.pace_at, Reading.config_at, Reading.numbers_at, Reading.heap_words_at};
+ghost use Rattle.nmgc_script.specs.{Spelling.FitsConfig, Reading.Gives, Reading.between_at, Reading.segment_size_at, Reading.sizes_at, Reading.pace_at, Reading.config_at, Reading.numbers_at, Reading.heap_words_at};
 
 use crate::tokens::small_number;
 use crate::version::Version;

@@ -2,7 +2,7 @@
 //!
 //! A script gives the sizes of a heap and a program of commands for each mutator. Its text is cut into lines and the lines
 //! into tokens. The first line that has a fault is reported by its number and cause. `specs/Spelling.antt` says which bytes
-//! spell a script. `specs/Faults.antt` says which fault a line has and which fault is reported.
+//! spell a script. `specs/Spelling.antt` says which fault a line has and which fault is reported.
 //! `a_text_spells_at_most_one_script` has the laws of both. A new command needs a `Verb` in `VERBS` with its `name`, and an
 //! arm of `guess_verb`, so that it is found at once. A line in `read_command` (`commands`) reads it, and a line in
 //! `push_form` (`printing`) prints it. In `specs/` it needs a line of `command_words` (`Spelling`), of `verb_name` (`Parts`) and

@@ -4,7 +4,7 @@
 //! first fault ends the reading, so the reported line is the first bad line. Easy to get wrong: if the text ends before the
 //! first section, the reported line is the line after the last, and lines that are passed over are counted too.
 ghost use Rattle.std.specs.Prelude.{◌≡◌, true, false, ℕ, ◌+◌, ◌<◌, ◌≤◌, ◌^◌, length, sum_by, IfErr, IfOk, MatchResult};
-ghost use Rattle.nmgc_script.specs.{Results.IsFaultOf, Faults.IsFaultOfText, Limits.FitsConfig, Limits.lines_bytes, Limits.most_bytes, Spelling.Spells, declared.fault.Cause.Cause as Why, declared.script.Script.Script as Spelled, Reading.kept_after, Reading.end_after, Text.kept_lines, Parts.end_of, declared.fault.ScriptFault.TheVariants.NoMemory as no_memory};
+ghost use Rattle.nmgc_script.specs.{Results.IsFaultOf, Spelling.IsFaultOfText, Spelling.FitsConfig, Spelling.lines_bytes, Spelling.most_bytes, Spelling.Spells, Spelling.kept_lines, declared.fault.Cause.Cause as Why, declared.script.Script.Script as Spelled, Reading.kept_after, Reading.end_after, Parts.end_of, declared.fault.ScriptFault.TheVariants.NoMemory as no_memory};
 ghost use Rattle.nmgc_script.specs.Reading.{GivesAt, at_line, version_at, heap_at, programs_at, threads_at, script_at, placed};
 
 use crate::config::heap_config;
@@ -75,7 +75,7 @@ fn most_bytes(bytes: &[u8]) -> usize
 }
 
 // Takes the next line, if any. Returns the most bytes of a script of version 3 if the line is `nmgc 3`, else of version 1.
-#[tactic(auto, unfolding(crate::specs::Limits::lines_bytes))]
+#[tactic(auto, unfolding(crate::specs::Spelling::lines_bytes))]
 fn take_byte_limit(lines: &mut Lines) -> usize
     ensures { result ≡ lines_bytes (kept_after lines.old.number lines.old.rest.now) }
 {

@@ -5,8 +5,8 @@
 ghost use Rattle.std.specs.Prelude.{◌≡◌, ◌∷◌, [], ◌++◌, decimal, map, IfOk, OnOk};
 ghost use Rattle.nmgc_commands.specs.Packed.{command_of};
 ghost use Rattle.nmgc_io.specs.{Spaced.after_spaces, Text.ended, Text.spaced};
-ghost use Rattle.nmgc_script.specs.{Limits.FitsScript, Printing.word_text};
-ghost use Rattle.nmgc_script.specs.Spelling.{Spells, command_words, heap_words, operand_word, section_lines};
+ghost use Rattle.nmgc_script.specs.Printing.{word_text};
+ghost use Rattle.nmgc_script.specs.Spelling.{FitsScript, Spells, command_words, heap_words, operand_word, section_lines};
 ghost use Rattle.nmgc_script.specs.Parts.{section_words, version_words};
 ghost use Rattle.nmgc_script.specs.Parts.{plain, program_lines};
 

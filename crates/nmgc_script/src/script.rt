@@ -1,10 +1,10 @@
 //! A script, and the numbers of its heap.
 //!
-//! `specs/Limits.antt` says which scripts are within the limits; the numbers are defined in `nmgc_limits`. A configuration
+//! `specs/Spelling.antt` says which scripts are within the limits; the numbers are defined in `nmgc_limits`. A configuration
 //! alone can't keep the limit of the whole heap. There is one nursery for each thread, so the total is a limit of the script.
 //! Easy to get wrong: the least nursery depends on the words of a segment, since a nursery must have room for any object.
 ghost use Rattle.std.specs.Prelude.{◌≡◌};
-ghost use Rattle.nmgc_script.specs.Limits.{FitsScript, upgraded};
+ghost use Rattle.nmgc_script.specs.Spelling.{FitsScript, upgraded};
 ghost use Rattle.nmgc_script.specs.Parts.{upgraded_number};
 
 use crate::version::Version;

@@ -5,7 +5,7 @@
 //! a section line if its first token is `thread`.
 ghost use Rattle.std.specs.Prelude.{◌≡◌, ◌+◌, ◌<◌, ◌≤◌, map, IfOk};
 ghost use Rattle.nmgc_limits.specs.Limits.{most_segment_words};
-ghost use Rattle.nmgc_script.specs.{Limits.FitsConfig, Parts.total_words, Reading.Gives, Reading.thread_at, Reading.section_at, Reading.is_section, Reading.entry_at};
+ghost use Rattle.nmgc_script.specs.{Spelling.FitsConfig, Parts.total_words, Reading.Gives, Reading.thread_at, Reading.section_at, Reading.is_section, Reading.entry_at};
 
 use crate::commands::command;
 use crate::tokens::small_number;

@@ -3,7 +3,7 @@
 //! `Lines` iterates over the lines that are neither blank nor comments, and keeps the number of the next line of the text.
 //! Easy to get wrong: lines that are passed over are counted. If the text ends too early, the reported line doesn't exist.
 ghost use Rattle.std.specs.Prelude.{◌≡◌, ◌+◌, ◌<◌, ◌≤◌, ◌^◌, [], ◌∷◌, length, take, IfSome, IfNone};
-ghost use Rattle.nmgc_script.specs.{Reading.kept_after, Reading.end_after, Text.kept_lines, Parts.end_of};
+ghost use Rattle.nmgc_script.specs.{Reading.kept_after, Reading.end_after, Spelling.kept_lines, Parts.end_of};
 
 use nmgc_io::{is_blank_or_comment, split_line};
 

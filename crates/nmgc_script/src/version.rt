@@ -5,7 +5,7 @@
 //! registers that a command can name. An old version may allow fewer than there are. The laws of versions are about any
 //! usable version (`specs/laws/Versions.antt`). So a fourth version is a constant and a line that is read.
 ghost use Rattle.std.specs.Prelude.{◌≡◌};
-ghost use Rattle.nmgc_script.specs.Limits.{version_1, version_2, version_3};
+ghost use Rattle.nmgc_script.specs.Spelling.{version_1, version_2, version_3};
 
 use nmgc_limits::{MAKERS, MAX_HEAP_WORDS, MAX_SCRIPT_BYTES, REGISTERS};
 

@@ -1,6 +1,6 @@
 -- A segment's invariant, and its blocks that are marked, in the snapshot or unused.
 use Rattle.std.specs.Prelude.{ℕ, ◌≡◌, ◌≢◌, ◌<◌, ◌≤◌, ◌⊎◌, ◌↔◌, length}
-use Rattle.nmgc_object.specs.{Size.block_size, declared.size.TheConstants.MAX_BLOCK_WORDS, declared.size.TheConstants.MAX_CLASS}
+use Rattle.nmgc_object.specs.{Words.block_size, declared.size.TheConstants.MAX_BLOCK_WORDS, declared.size.TheConstants.MAX_CLASS}
 use Rattle.nmgc_segment.specs.{declared.state.TheConstants.MAX_EPOCH, declared.state.State.TheVariants.Free, Segment.Segment, Segment.segment_words, Segment.block_count, Segment.mark_of, Segment.InUse}
 
 -- a correct count of blocks, with a mark byte for each block

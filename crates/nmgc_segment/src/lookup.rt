@@ -4,7 +4,7 @@
 //! product without its 16 lowest binary digits is the number of the block that holds the word. These digits are below the
 //! factor exactly if the block begins at the word. In at most 4,096 words, rounding errors stay below the factor.
 ghost use Rattle.std.specs.Prelude.{ℕ, ◌≡◌, ◌≢◌, ◌*◌, ◌<◌, ◌≤◌, IfSome, IfNone};
-ghost use Rattle.nmgc_object.specs.{Size.block_size, declared.size.TheConstants.MAX_BLOCK_WORDS};
+ghost use Rattle.nmgc_object.specs.{Words.block_size, declared.size.TheConstants.MAX_BLOCK_WORDS};
 
 use nmgc_object::size::MAX_CLASS;
 

@@ -1,6 +1,6 @@
 -- The marking machine: the condition and the effect of each event.
 use Rattle.std.specs.Prelude.{◌≡◌, ◌≢◌, ℕ, List, [], ◌∷◌, ◌++◌, slice_set, is_some, Bool, true, false, not, ◌&&◌, if◌then◌else◌, All}
-use Rattle.nmgc_world_spec.specs.{declared.value.Name.Name, declared.command.Command.Command, World.World, World.node_of, Change.is_same_name, Known.CanApply, Step.step, Step.shared_name, History.opened_by, History.finalised_by, Owed.owed_by}
+use Rattle.nmgc_world_spec.specs.{declared.value.Name.Name, declared.command.Command.Command, World.World, World.node_of, World.is_same_name, World.step, World.shared_name, Known.CanApply, Reach.opened_by, Reach.finalised_by, Reach.owed_by}
 use Rattle.nmgc_snapshot_laws.specs.{declared.event.Entry.Entry, declared.event.Event.Event, State.State, State.names_of, State.mark_name, State.mark_read, Scan.read_at, Scan.moved_on, Closing.IsClosing}
 use Rattle.nmgc_snapshot_laws.specs.declared.event.Event.TheVariants as event
 

@@ -1,6 +1,6 @@
 -- Runs of the machine, and the snapshot theorem about their marks.
 use Rattle.std.specs.Prelude.{◌≡◌, ◌↔◌, List, [], ◌∷◌, ◌++◌, Contains, Bool, true, false, if◌then◌else◌}
-use Rattle.nmgc_world_spec.specs.{declared.value.Name.Name, World.World, Known.IsWorld, History.Row, History.replayed, History.IsLegal, History.opened, History.finalised, Reach.IsLive, Reach.IsDead, Reach.IsKept, Reach.Lists, Reach.closed}
+use Rattle.nmgc_world_spec.specs.{declared.value.Name.Name, World.World, Known.IsWorld, Reach.Row, Reach.replayed, Reach.IsLegal, Reach.opened, Reach.finalised, Reach.IsLive, Reach.IsDead, Reach.IsKept, Reach.Lists, Reach.closed}
 use Rattle.nmgc_snapshot_laws.specs.{declared.event.Event.Event, State.State, State.opening, Machine.IsPossible, Machine.Passes, Facts.Facts, Closing.IsMarkedFirst, Closing.IsClosing}
 use Rattle.nmgc_snapshot_laws.specs.declared.event.Event.TheVariants as event
 

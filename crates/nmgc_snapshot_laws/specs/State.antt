@@ -1,7 +1,7 @@
 -- The state of the marking machine as contracts see it, and the marking of a name.
 use Rattle.std.specs.Prelude.{ℕ, List, [], ◌∷◌, ◌++◌, length, replicate, slice_index_or, Option, Some, None, is_some, Bool, false, not, ◌&&◌, ◌||◌, if◌then◌else◌}
 use Rattle.std.specs.List.{flat_map}
-use Rattle.nmgc_world_spec.specs.{declared.value.Name.Name, declared.value.Value.Value, declared.mutator_state.MutatorState.MutatorState, World.World, World.node_of, Change.is_same_name, Step.shared_name, Reach.strong_fields}
+use Rattle.nmgc_world_spec.specs.{declared.value.Name.Name, declared.value.Value.Value, declared.mutator_state.MutatorState.MutatorState, World.World, World.node_of, World.is_same_name, World.shared_name, Reach.strong_fields}
 use Rattle.nmgc_world_spec.specs.declared.value.Value.TheVariants as value
 use Rattle.nmgc_snapshot_laws.specs.declared.event.Entry.{Entry}
 

@@ -2,8 +2,6 @@ pub mod Cycle
 pub mod Kept
 pub mod Nurseries
 pub mod Occupied
-pub mod Placed
-pub mod Promoted
 pub mod Remembers
 pub mod Room
 pub mod Samples

@@ -1,8 +1,8 @@
 -- The objects in the nurseries.
 use Rattle.std.specs.Prelude.{ℕ, ◌≡◌, ◌+◌, ◌<◌, ◌≤◌, List, length, slice_index_or, Contains, Some}
 use Rattle.nmgc_world_spec.specs.{declared.node.Node.Node, World.World, World.node_of, Reach.IsBefore}
-use Rattle.nmgc_object.specs.{Places.nursery_place, declared.layout.Layout.Layout, declared.layout.Nursery.Nursery}
-use Rattle.nmgc_heap_spec.specs.{Shape.size_of, Places.Place}
+use Rattle.nmgc_object.specs.{Words.nursery_place, declared.layout.Layout.Layout, declared.layout.Nursery.Nursery}
+use Rattle.nmgc_heap_spec.specs.Objects.{size_of, Place}
 
 -- the nursery of the mutator `maker`
 abbrev pub nursery_at : List Nursery → ℕ → Nursery

@@ -2,10 +2,10 @@
 use Rattle.std.specs.Prelude.{ℕ, ◌≡◌, ◌≢◌, ◌<◌, ◌≤◌, List, Contains, Some}
 use Rattle.nmgc_world_spec.specs.{declared.value.Name.Name, declared.node.Node.Node, World.World, World.node_of}
 use Rattle.nmgc_limits.specs.declared.mutators.TheConstants.{SHARED_MAKER}
-use Rattle.nmgc_object.specs.Size.{block_size}
+use Rattle.nmgc_object.specs.Words.{block_size}
 use Rattle.nmgc_segment.specs.Segment.{InUse}
-use Rattle.nmgc_alloc.specs.{Numbered.nth, Numbered.Segments, Segments.IsBlockAt}
-use Rattle.nmgc_heap_spec.specs.{Shape.size_of, Places.Place}
+use Rattle.nmgc_alloc.specs.{AllocState.nth, AllocState.Segments, Segments.IsBlockAt}
+use Rattle.nmgc_heap_spec.specs.Objects.{size_of, Place}
 
 -- a block in use of `size` words begins at address `at`
 pub record IsOccupied (s : Segments) (at size : ℕ) : Type 0 where

@@ -3,7 +3,7 @@ use Rattle.std.specs.Prelude.{ℕ, ◌≡◌, ◌≢◌, ◌+◌, ◌<◌, ◌�
 use Rattle.nmgc_world_spec.specs.{declared.value.Name.Name, declared.value.Value.TheVariants.Ref, declared.node.Node.Node, declared.node.Node.TheVariants.Weak, declared.node.Parts.Parts, World.World, World.node_of, Reach.IsAlive}
 use Rattle.nmgc_limits.specs.declared.mutators.TheConstants.{SHARED_MAKER}
 use Rattle.nmgc_object.specs.declared.size.TheConstants.{HEADER_WORDS}
-use Rattle.nmgc_heap_spec.specs.{Shape.Slot, Shape.holds, Shape.unspecified, Shape.slots_of, Tracked.IsTracked, Places.Place}
+use Rattle.nmgc_heap_spec.specs.{Objects.Slot, Objects.holds, Objects.unspecified, Objects.slots_of, Objects.Place, Tracked.IsTracked}
 
 -- the lists of a round: the recorded fields and the weak pointers. Recorded are addresses of specified fields of tracked
 -- objects outside the nurseries. They include each field that refers to a nursery object and isn't a slot of g. The weak

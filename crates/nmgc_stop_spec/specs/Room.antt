@@ -1,7 +1,7 @@
 -- The room for objects that are placed one after the other.
 use Rattle.std.specs.Prelude.{ℕ, ◌≡◌, ◌*◌, ◌≤◌, List, [], ◌∷◌, sum_by}
-use Rattle.nmgc_object.specs.{Size.IsClassOf, Places.reserve_count}
-use Rattle.nmgc_alloc.specs.{Numbered.Segments, Segments.IsSegments, Segments.IsMutator, Segments.IsClass, Segments.HasRoom, Segments.Allocates, Reserve.free_count}
+use Rattle.nmgc_object.specs.Words.{IsClassOf, reserve_count}
+use Rattle.nmgc_alloc.specs.{AllocState.Segments, Segments.IsSegments, Segments.IsMutator, Segments.IsClass, Segments.HasRoom, Segments.Allocates, Reserve.free_count}
 
 -- an object that is placed: its maker, its class, and its number of words
 pub record Placing : Type 0 where

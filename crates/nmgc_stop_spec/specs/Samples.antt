@@ -2,9 +2,9 @@
 use Rattle.std.specs.Prelude.{ℕ, ◌≡◌, ◌+◌, ◌-◌, ◌<◌, List, [], ◌∷◌, length, replicate, slice_index}
 use Rattle.nmgc_world_spec.specs.{declared.command.Command.TheVariants.Num, declared.command.Command.TheVariants.Con, declared.command.Operand.TheVariants.Register, World.World, World.new_world}
 use Rattle.nmgc_limits.specs.declared.mutators.TheConstants.{REGISTERS, SHARED_MAKER, SHARED_SLOTS}
-use Rattle.nmgc_object.specs.{Places.word_total, Places.nursery_place, declared.layout.Nursery.Nursery, declared.layout.TheConstants.SHARED_PLACE, declared.size.TheConstants.HEADER_WORDS, declared.size.TheConstants.NAME_OFFSET, declared.words.TheConstants.NIL_WORD}
-use Rattle.nmgc_alloc.specs.{Numbered.Segments, Segments.IsSegments, Segments.all_free}
-use Rattle.nmgc_heap_spec.specs.{Places.Place, Places.HasZeros, Places.shared_place, Samples.small_layout, Samples.after, Samples.own}
+use Rattle.nmgc_object.specs.{Words.word_total, Words.nursery_place, declared.layout.Nursery.Nursery, declared.layout.TheConstants.SHARED_PLACE, declared.size.TheConstants.HEADER_WORDS, declared.size.TheConstants.NAME_OFFSET, declared.words.TheConstants.NIL_WORD}
+use Rattle.nmgc_alloc.specs.{AllocState.Segments, Segments.IsSegments, Segments.all_free}
+use Rattle.nmgc_heap_spec.specs.{Objects.Place, Objects.HasZeros, Objects.shared_place, Samples.small_layout, Samples.after, Samples.own}
 use Rattle.nmgc_stop_spec.specs.Stopped.{Stopped, IsStopped}
 
 -- the world after the sample's round: register 1 holds the number 5, and register 0 a constructor of tag 7 with field 5

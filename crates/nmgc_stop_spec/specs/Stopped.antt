@@ -4,10 +4,10 @@
 -- the mutators may have dropped in the round. So the places and the used worlds are given with the world.
 use Rattle.std.specs.Prelude.{ℕ, ◌≡◌, ◌<◌, ◌≤◌, ◌⊎◌, ◌↔◌, List, ◌∷◌, map, Contains, None, IsSome}
 use Rattle.nmgc_world_spec.specs.{declared.value.Name.Name, declared.node.Parts.Parts, World.World, World.node_of, Known.IsWorld, Reach.RefersTo, Reach.IsAlive, Reach.Lists}
-use Rattle.nmgc_object.specs.{Places.nursery_place, Places.reserve_count, declared.layout.Nursery.Nursery}
-use Rattle.nmgc_alloc.specs.{Numbered.Segments, Segments.IsSegments, Reserve.free_count}
-use Rattle.nmgc_heap_spec.specs.{Tracked.IsTracked, Places.Place, Represents.Represents, Represents.NoNode, Changes.IsEarlier, Roots.RepresentsRoots, Moves.Moved, Moves.old_place, Moves.settled}
-use Rattle.nmgc_stop_spec.specs.{Nurseries.AreUsed, Nurseries.LieInOrder, Nurseries.AreEmpty, Occupied.AreBlocks, Promoted.IsPromoted, Remembers.Remembers}
+use Rattle.nmgc_object.specs.{Words.nursery_place, Words.reserve_count, declared.layout.Nursery.Nursery}
+use Rattle.nmgc_alloc.specs.{AllocState.Segments, Segments.IsSegments, Reserve.free_count}
+use Rattle.nmgc_heap_spec.specs.{Tracked.IsTracked, Objects.Place, Represents.Represents, Represents.NoNode, Changes.IsEarlier, Roots.RepresentsRoots, Moves.Moved, Moves.old_place, Moves.settled}
+use Rattle.nmgc_stop_spec.specs.{Nurseries.AreUsed, Nurseries.LieInOrder, Nurseries.AreEmpty, Occupied.AreBlocks, Cycle.IsPromoted, Remembers.Remembers}
 
 -- the state at a stop: the world, the world as the round began, the earlier worlds that the collector still uses after the
 -- promotion, the places of objects, and the next serials

@@ -2,9 +2,9 @@
 //! Each function here does nothing; its contract is the law.
 ghost use Rattle.std.specs.Prelude.{ℕ, ◌≡◌, ◌+◌, ◌*◌, ◌<◌, ◌≤◌, ◌⊎◌, List, Contains};
 ghost use Rattle.nmgc_world_spec.specs.{declared.value.Name.Name, declared.value.Value.TheVariants.Ref, declared.node.Node.Node, World.World, Known.IsWorld, World.node_of, Reach.RefersTo, Reach.strong_fields};
-ghost use Rattle.nmgc_object.specs.{Places.nursery_place, Places.InSegment, declared.layout.Layout.Layout, declared.layout.TheConstants.FIRST_PLACE, Size.block_size};
-ghost use Rattle.nmgc_alloc.specs.{Numbered.Segments, Segments.IsSegments, Segments.Allocates};
-ghost use Rattle.nmgc_heap_spec.specs.{Tracked.IsTracked, Places.Place, Represents.Represents, Represents.NoNode};
+ghost use Rattle.nmgc_object.specs.{Words.nursery_place, Words.InSegment, Words.block_size, declared.layout.Layout.Layout, declared.layout.TheConstants.FIRST_PLACE};
+ghost use Rattle.nmgc_alloc.specs.{AllocState.Segments, Segments.IsSegments, Segments.Allocates};
+ghost use Rattle.nmgc_heap_spec.specs.{Tracked.IsTracked, Objects.Place, Represents.Represents, Represents.NoNode};
 ghost use Rattle.nmgc_stop_spec.specs.{Occupied.IsOccupied, Occupied.KeepsMarks, Strong.HasStrong, Room.ReserveSuffices, Samples.OneYoung};
 
 use nmgc_object::laws::words_differ;

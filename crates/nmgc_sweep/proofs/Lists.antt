@@ -1,7 +1,7 @@
 -- Lists of names without duplicates, and ascending numbers.
 use Rattle.std.proofs.{Common.ℕ, Common.zero, Common.suc, Common.◌≡◌, Common.◌<◌, Common.◌∙◌, Common.inl, Common.inr, Common.refl, Common.sym, Common.ap, Common.subst, Common.arith, Common.List, Common.[], Common.◌∷◌, Common.◌++◌, Common.Option, Common.Some, Common.None, lemmas.Option.slice_get-get_or, lemmas.List.Elements.Contains-append_cases}
 use Rattle.std.specs.Prelude.{Contains, slice_get}
-use Rattle.nmgc_world_spec.specs.{declared.value.Name.Name, Listing.Ascends, Listing.AreDistinct}
+use Rattle.nmgc_world_spec.specs.{declared.value.Name.Name, Reach.Ascends, Reach.AreDistinct}
 use Rattle.nmgc_lists.specs.{laws.Items.contains_head, laws.Items.contains_tail, laws.Items.contains_cases, laws.Options.some_is as same_some}
 use Rattle.nmgc_sweep.specs.Sweeping.{IsWithoutDoubles}
 

@@ -2,7 +2,7 @@
 use Rattle.nmgc_sweep.proofs.Vocabulary.{ℕ, ◌≡◌, ◌+◌, ◌-◌, ◌<◌, ◌≤◌, ◌∙◌, List, ◌++◌, length, length-append, length-set, append_assoc, set, slice_get, Some, sym, ap, arith, inl, inr, refl, cases_lt, slice_get-get_or, Name}
 use Rattle.std.proofs.lemmas.List.{get_or_append_left, get_or-append_right, get_or_past, get_or-replicate, length-replicate, replicate-append-replicate, set-append_left}
 use Rattle.std.specs.Prelude.{replicate, slice_index_or}
-use Rattle.nmgc_world_spec.specs.Step.{shared_name}
+use Rattle.nmgc_world_spec.specs.World.{shared_name}
 use Rattle.nmgc_sweep.specs.NameTable.{padded}
 
 pub padded_length : (limit : ℕ) (entries : List Name) → length entries ≤ limit → length (padded limit entries) ≡ limit

@@ -1,11 +1,11 @@
 -- Segments are swept: the names in them are listed, the names of lost blocks are freed, and the sweeper is still at work.
 use Rattle.std.proofs.{Common.ℕ, Common.zero, Common.suc, Common.◌≡◌, Common.◌≢◌, Common.◌↔◌, Common.◌+◌, Common.◌-◌, Common.◌*◌, Common.◌^◌, Common.◌<◌, Common.◌≤◌, Common.◌∙◌, Common.inl, Common.inr, Common.refl, Common.sym, Common.ap, Common.subst, Common.arith, Common.List, Common.[], Common.◌∷◌, Common.◌++◌, Common.length, Common.Option, Common.Some, Common.length-set, Common.length-append, lemmas.Bool.cases_eq, lemmas.Bool.Decides.nat_tests, lemmas.List.Elements.Contains-append_left, lemmas.List.Elements.Contains-append_right, lemmas.List.Elements.Contains-append_cases}
 use Rattle.std.specs.Prelude.{Contains, IsSome, min}
-use Rattle.nmgc_world_spec.specs.{declared.value.Name.Name, Listing.ListsNumbers}
+use Rattle.nmgc_world_spec.specs.{declared.value.Name.Name, Reach.ListsNumbers}
 use Rattle.nmgc_lists.specs.laws.Items.{contains_head, contains_tail, contains_cases, is_some_of}
 use Rattle.nmgc_object.specs.{declared.layout.Layout.Layout, declared.size.TheConstants.MIN_BLOCK_WORDS}
 use Rattle.nmgc_segment.specs.{Marks.IsEpoch, Marks.swept, Marks.epoch_of, Segment.Segment, Segment.InUse, Invariant.IsMarked, Segment.mark_of, Segment.block_count, declared.state.State.TheVariants.Sweeping, laws.Segments.mark-map, laws.Segments.zero_swept}
-use Rattle.nmgc_alloc.specs.{Halves.SweepsMany, Numbered.nth, Numbered.Segments, Numbered.HasNumber, Segments.SweepsNext, Segments.IsWaiting, Stands.Shows, Stands.StandsFor, laws.Cells.swept_by_names, laws.Cells.swept_other, laws.Cells.swept_state, laws.Numbers.nth-set_other, laws.Placing.inside, laws.Sweeping.swept_stands, Settled.IsSettledByte, AllocState.AllocState, AllocState.Cells, AllocState.Sweeps, AllocState.SweepsEach, AllocState.SweepsSome, AllocState.HoldsKept, Invariant.LieOnce, AllocState.LiesIn, AllocState.IsIn, AllocState.cells, AllocState.name_in}
+use Rattle.nmgc_alloc.specs.{Halves.SweepsMany, AllocState.nth, AllocState.Segments, AllocState.HasNumber, AllocState.Shows, AllocState.StandsFor, AllocState.AllocState, AllocState.Cells, AllocState.Sweeps, AllocState.SweepsEach, AllocState.SweepsSome, AllocState.HoldsKept, AllocState.LiesIn, AllocState.IsIn, AllocState.cells, AllocState.name_in, Segments.SweepsNext, Segments.IsWaiting, laws.Cells.swept_by_names, laws.Cells.swept_other, laws.Cells.swept_state, laws.Numbers.nth-set_other, laws.Placing.inside, laws.Sweeping.swept_stands, Settled.IsSettledByte, Invariant.LieOnce}
 use Rattle.nmgc_round.specs.Gate.{next_turn, passed}
 use Rattle.nmgc_stop_spec.specs.{Cycle.IsKeptIn, Cycle.IsSweptIn, Cycle.Cycle, Waiting.AreAsNoted}
 use Rattle.nmgc_sweep.specs.{Sweeping.IsWithoutDoubles, Seen.CycleSeen, Listing.ListsBlocks, Listing.IsLost, NameTable.AreNamed, NameTable.named_at, Sweeper.Sweeper, Sweeper.AreLeft, Sweeper.CanList, Work.HasListed, Work.HaveListed, Work.HasSwept, Work.IsAtWork, laws.NameTable.lies_class, laws.NameTable.named_swept}

@@ -1,6 +1,6 @@
 -- The names of a segment that a sweeper lists.
 use Rattle.std.specs.Prelude.{ℕ, ◌≡◌, ◌<◌, ◌++◌, List, Contains, Option, Some}
-use Rattle.nmgc_world_spec.specs.{declared.value.Name.Name, Listing.AreDistinct}
+use Rattle.nmgc_world_spec.specs.{declared.value.Name.Name, Reach.AreDistinct}
 use Rattle.nmgc_segment.specs.{Segment.Segment, Segment.InUse, Invariant.IsMarked}
 
 -- listed names: the names of a segment's passing blocks below `below` were appended, each once if no two passing blocks have

@@ -1,8 +1,8 @@
 -- The names of objects in segments, in an array by addresses: noted when objects move, and read when a segment is swept.
 use Rattle.std.specs.Prelude.{ℕ, ◌≡◌, ◌≢◌, ◌⊎◌, ◌-◌, ◌*◌, ◌/◌, ◌≤◌, ◌++◌, List, length, replicate, slice_get, Contains, Option, Some}
-use Rattle.nmgc_world_spec.specs.{declared.value.Name.Name, Step.shared_name}
+use Rattle.nmgc_world_spec.specs.{declared.value.Name.Name, World.shared_name}
 use Rattle.nmgc_object.specs.{declared.layout.Layout.Layout, declared.layout.TheConstants.FIRST_PLACE, declared.size.TheConstants.MIN_BLOCK_WORDS}
-use Rattle.nmgc_alloc.specs.{Numbered.block_place, AllocState.AllocState, AllocState.LiesIn, AllocState.cells}
+use Rattle.nmgc_alloc.specs.AllocState.{block_place, AllocState, LiesIn, cells}
 use Rattle.nmgc_heap_spec.specs.Moves.{Moved}
 
 -- the entry of an address: the position in the array of names for the block that begins at the address. The array has an

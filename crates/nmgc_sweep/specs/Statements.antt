@@ -1,9 +1,9 @@
 -- The laws of a sweeper and its cycle, from the cycle's beginning to its end.
 use Rattle.std.specs.Prelude.{ℕ, ◌≡◌, ◌↔◌, ◌<◌, List, [], length}
-use Rattle.nmgc_world_spec.specs.{declared.value.Name.Name, Reach.Lists, Listing.ListsNumbers, Listing.Counts}
+use Rattle.nmgc_world_spec.specs.{declared.value.Name.Name, Reach.Lists, Reach.ListsNumbers, Reach.Counts}
 use Rattle.nmgc_object.specs.declared.layout.Layout.{Layout}
 use Rattle.nmgc_segment.specs.{Segment.mark_of, Marks.epoch_of}
-use Rattle.nmgc_alloc.specs.{Numbered.nth, Numbered.Segments, Segments.Allocates, Segments.IsWaiting, Stands.StandsFor, Settled.AreSettled, AllocState.AllocState, Invariant.LieOnce, AllocState.NoneIs, AllocState.IsIn, AllocState.count_in, AllocState.cycle_begun, AllocState.cells, AllocState.PlacesName}
+use Rattle.nmgc_alloc.specs.{AllocState.nth, AllocState.Segments, AllocState.StandsFor, AllocState.AllocState, AllocState.NoneIs, AllocState.IsIn, AllocState.count_in, AllocState.cycle_begun, AllocState.cells, AllocState.PlacesName, Segments.Allocates, Segments.IsWaiting, Settled.AreSettled, Invariant.LieOnce}
 use Rattle.nmgc_segment.specs.declared.state.State.TheVariants as stands
 use Rattle.nmgc_stop_spec.specs.{Cycle.IsDeadIn, Kept.IsKeptObject, Cycle.IsSweptIn, Cycle.IsHadIn, Cycle.IsFreedIn, Cycle.Cycle, Waiting.AreAsNoted}
 use Rattle.nmgc_sweep.specs.{Sweeping.AreKeptMarked, Seen.CycleSeen, Sweeper.Sweeper, Sweeper.AreLeft, Sweeper.HasNotes, Work.HasBegun, Work.IsAtWork}

@@ -1,8 +1,8 @@
 -- A sweeper in contracts, and the facts that it keeps from its cycle's beginning on.
 use Rattle.std.specs.Prelude.{ℕ, ◌*◌, ◌≤◌, List, Contains}
 use Rattle.nmgc_object.specs.declared.size.TheConstants.{MIN_BLOCK_WORDS}
-use Rattle.nmgc_alloc.specs.{Numbered.Segments, Segments.IsWaiting, Invariant.LieOnce}
-use Rattle.nmgc_world_spec.specs.Listing.{ListsNumbers}
+use Rattle.nmgc_alloc.specs.{AllocState.Segments, Segments.IsWaiting, Invariant.LieOnce}
+use Rattle.nmgc_world_spec.specs.Reach.{ListsNumbers}
 use Rattle.nmgc_sweep.specs.{Sweeping.HasNoted, Seen.SweeperSeen}
 use Rattle.nmgc_stop_spec.specs.Cycle.{Cycle}
 

@@ -1,9 +1,9 @@
 -- The sweeper of a cycle: the segments it noted and, after the closing, the names it has listed and freed.
 use Rattle.std.specs.Prelude.{ℕ, ◌≡◌, List, slice_get, Some, [], ◌↔◌, Contains}
-use Rattle.nmgc_world_spec.specs.{Listing.ListsNumbers, Listing.Counts, declared.value.Name.Name, Reach.Lists}
+use Rattle.nmgc_world_spec.specs.{Reach.ListsNumbers, Reach.Counts, Reach.Lists, declared.value.Name.Name}
 use Rattle.nmgc_segment.specs.{Marks.epoch_of, Invariant.IsMarked}
 use Rattle.nmgc_segment.specs.declared.state.State.TheVariants as stands
-use Rattle.nmgc_alloc.specs.{Numbered.nth, Numbered.Segments, AllocState.AllocState, AllocState.LiesIn, AllocState.IsIn, AllocState.cells}
+use Rattle.nmgc_alloc.specs.AllocState.{nth, Segments, AllocState, LiesIn, IsIn, cells}
 use Rattle.nmgc_stop_spec.specs.{Cycle.IsSweptIn, Cycle.Cycle, Cycle.IsKeptIn, Cycle.IsDeadIn, Kept.IsKeptObject, Waiting.AreAsNoted}
 use Rattle.nmgc_sweep.specs.Seen.{SweeperSeen, CycleSeen}
 

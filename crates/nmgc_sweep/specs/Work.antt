@@ -1,8 +1,8 @@
 -- The effect of each call of a sweeper on its cycle.
 use Rattle.std.specs.Prelude.{ℕ, zero, suc, ◌≡◌, ◌↔◌, ◌+◌, ◌<◌, List, [], ◌∷◌, ◌++◌, length, Contains, Some}
-use Rattle.nmgc_world_spec.specs.{declared.value.Name.Name, Listing.AreDistinct}
+use Rattle.nmgc_world_spec.specs.{declared.value.Name.Name, Reach.AreDistinct}
 use Rattle.nmgc_segment.specs.Segment.{Segment, InUse, block_count}
-use Rattle.nmgc_alloc.specs.{Halves.SweepsMany, Numbered.nth, Numbered.Segments, AllocState.AllocState, AllocState.SweepsSome, Stands.StandsFor, Settled.AreSettled}
+use Rattle.nmgc_alloc.specs.{Halves.SweepsMany, AllocState.nth, AllocState.Segments, AllocState.AllocState, AllocState.SweepsSome, AllocState.StandsFor, Settled.AreSettled}
 use Rattle.nmgc_stop_spec.specs.Cycle.{IsKeptIn, Cycle}
 use Rattle.nmgc_sweep.specs.{Sweeping.IsSweeping, Seen.CycleSeen, Listing.ListsBlocks, Listing.IsLost, NameTable.AreNamed, NameTable.named_at, Sweeper.Sweeper, Sweeper.AreLeft, Sweeper.HasNotes}
 

@@ -3,7 +3,7 @@
 ghost use Rattle.std.specs.Prelude.{◌+◌, ◌*◌, ◌≤◌};
 ghost use Rattle.nmgc_object.specs.declared.size.TheConstants.{MIN_BLOCK_WORDS as LEAST};
 ghost use Rattle.nmgc_segment.specs.{Marks.IsEpoch, Segment.InUse, Segment.block_count};
-ghost use Rattle.nmgc_alloc.specs.{Numbered.nth, Numbered.HasNumber, Segments.IsWaiting};
+ghost use Rattle.nmgc_alloc.specs.{AllocState.nth, AllocState.HasNumber, Segments.IsWaiting};
 ghost use Rattle.nmgc_sweep.specs.{Listing.ListsBlocks, Listing.IsLost, NameTable.HaveEntries, NameTable.named_at};
 
 use crate::name_table::NameTable;

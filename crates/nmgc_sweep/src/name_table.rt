@@ -11,7 +11,7 @@
 //! Easy to get wrong: an entry depends on a block's address, not on its number, since segments change their class. Every
 //! block has at least the words of an entry, so no two blocks share an entry.
 ghost use Rattle.std.specs.Prelude.{ℕ, ◌≡◌, ◌+◌, ◌<◌, ◌≤◌, ◌++◌, length, replicate, slice_get, slice_index_or, slice_set, vec_len, vec_capacity, Some, IfOk};
-ghost use Rattle.nmgc_world_spec.specs.Step.{shared_name};
+ghost use Rattle.nmgc_world_spec.specs.World.{shared_name};
 ghost use Rattle.nmgc_object.specs.Layouts.{IsLayout};
 ghost use Rattle.nmgc_sweep.specs.NameTable.{HaveEntries, entry_of, padded};
 

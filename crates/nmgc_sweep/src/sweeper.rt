@@ -15,7 +15,7 @@
 ghost use Rattle.std.specs.Prelude.{ℕ, ◌≡◌, ◌≢◌, ◌-◌, ◌/◌, ◌<◌, ◌≤◌, [], length, min, IsTrue, IfOk, ◌↔◌};
 ghost use Rattle.nmgc_segment.specs.Marks.{IsEpoch};
 ghost use Rattle.nmgc_alloc.specs.{Halves.IsInHalf, Segments.IsWaiting};
-ghost use Rattle.nmgc_world_spec.specs.Listing.{ListsNumbers};
+ghost use Rattle.nmgc_world_spec.specs.Reach.{ListsNumbers};
 ghost use Rattle.nmgc_name_lists.specs.Spans.{names_in};
 ghost use Rattle.nmgc_round.specs.Gate.{passed};
 ghost use Rattle.nmgc_sweep.specs.{NameTable.HaveEntries, Sweeper.AreLeft, Sweeper.CanList, Work.HasBegun, Work.HasListed, Work.HaveListed, Work.HasSwept, Work.HasJudged};

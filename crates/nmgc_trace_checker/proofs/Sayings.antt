@@ -1,7 +1,7 @@
 -- A line of format 2 is read as its text says, and in no other way.
 use Rattle.std.proofs.{Common.◌≡◌, Common.◌<◌, Common.ℕ, Common.List, Common.[], Common.◌∷◌, Common.refl, Common.sym, Common.ap, Common.subst, Common.◌∙◌, Common.inl, Common.inr, Common.true, Common.false, Common.codes, Common.decimal, Common.Option, Common.Some, Common.None, lemmas.Bool.false≢true, lemmas.Option.same_Some, lemmas.Option.none-some}
 use Rattle.std.specs.{Prelude.All, List.AllByRecursion, Str.bytes_eq}
-use Rattle.nmgc_world_spec.specs.{declared.value.Name.Name, declared.command.Command.Command, declared.command.Reply.Reply, Command.Fits}
+use Rattle.nmgc_world_spec.specs.{declared.value.Name.Name, declared.command.Command.Command, declared.command.Reply.Reply, World.Fits}
 use Rattle.nmgc_world_spec.specs.declared.command.Reply.TheVariants as reply
 use Rattle.nmgc_object.specs.Words.{IsName}
 use Rattle.nmgc_io.specs.Text.{tokens_of, is_blank_or_comment, spaced}

@@ -1,6 +1,6 @@
 -- The names that a closed trace keeps, by the heap and the commands alone, without marks.
 use Rattle.std.specs.Prelude.{◌≡◌, List, [], ◌∷◌, ◌++◌}
-use Rattle.nmgc_world_spec.specs.{declared.value.Name.Name, World.World, History.Row, History.IsLegal, History.opened, History.finalised, Reach.IsKept, Reach.Lists}
+use Rattle.nmgc_world_spec.specs.{declared.value.Name.Name, World.World, Reach.Row, Reach.IsLegal, Reach.opened, Reach.finalised, Reach.IsKept, Reach.Lists}
 use Rattle.nmgc_snapshot_laws.specs.Run.{row_of}
 use Rattle.nmgc_trace_checker.specs.{declared.line.Line.Line, declared.verdict.Verdict.Verdict, Trace.Comes}
 use Rattle.nmgc_trace_checker.specs.declared.line.Line.TheVariants as line

@@ -3,7 +3,7 @@
 -- none, but the same code reads them.
 use Rattle.std.specs.Prelude.{◌≡◌, ◌≢◌, ◌⊎◌, ◌≤◌, ◌+◌, ◌-◌, ◌^◌, ℕ, List, [], ◌∷◌, ◌++◌, length, take, codes, string_bytes, Option, Some, None, Bool, true, false, IfSome}
 use Rattle.std.specs.{IoError.error_kind, declared.io.ErrorKind.TheVariants.OutOfMemory, Io.KnownBytes.Appends, List.flat_map, Option.option_map}
-use Rattle.nmgc_io.specs.Counts.{AppendsFront, next}
+use Rattle.nmgc_io.specs.Text.{AppendsFront, next}
 use Rattle.nmgc_barrier_laws.specs.declared.debt.Debt.{Debt}
 use Rattle.nmgc_barrier_checker.specs.declared.event.Event.{Event}
 use Rattle.nmgc_barrier_checker.specs.declared.event.Event.TheVariants as event

@@ -14,7 +14,7 @@
 -- - Another number of dues, no text beside the line since which a name is due, or other words of an error: rows refuse these.
 use Rattle.std.specs.Prelude.{◌≡◌, ◌⊎◌, ◌≤◌, ℕ, List, [], ◌∷◌, ◌++◌, map, codes, string_bytes, Option, Result, Ok, Err, Bool, Contains, if◌then◌else◌}
 use Rattle.std.specs.{Str.bytes_eq, Io.KnownBytes.Appends}
-use Rattle.nmgc_io.specs.Counts.{AppendsFront}
+use Rattle.nmgc_io.specs.Text.{AppendsFront}
 use Rattle.nmgc_arguments.specs.Output.{IsWritten}
 use Rattle.nmgc_trace_checker.specs.{declared.program.Arguments.Arguments, declared.reading.Outcome.Outcome, declared.reading.TraceFault.TraceFault, declared.status.Status.Status, Outcomes.IsFault, Outcomes.IsHeardUpTo, Outcomes.IsOutcome, Outcomes.IsTooLong, Outcomes.head_texts, Outcomes.is_passed_of, Said.texts_of, Sentences.outcome_text}
 use Rattle.nmgc_trace_checker.specs.declared.program.Arguments.TheVariants as arguments

@@ -2,7 +2,7 @@
 use Rattle.std.specs.Prelude.{◌≡◌, ◌⊎◌, ℕ, ◌-◌, List, [], ◌∷◌, ◌++◌, codes, Option, Some, None, Result, Ok, Err, IfOk, IsErr, ◌==◌, nat_lt, if◌then◌else◌}
 use Rattle.std.specs.Str.{bytes_eq}
 use Rattle.nmgc_limits.specs.declared.mutators.TheConstants.{REGISTERS}
-use Rattle.nmgc_world_spec.specs.{declared.value.Name.Name, declared.command.Operand.Operand, declared.command.Command.Command, declared.command.Reply.Reply, Command.Fits}
+use Rattle.nmgc_world_spec.specs.{declared.value.Name.Name, declared.command.Operand.Operand, declared.command.Command.Command, declared.command.Reply.Reply, World.Fits}
 use Rattle.nmgc_world_spec.specs.declared.command.Operand.TheVariants as operand
 use Rattle.nmgc_world_spec.specs.declared.command.Reply.TheVariants as reply
 use Rattle.nmgc_snapshot_laws.specs.declared.event.Event.TheVariants as core

@@ -1,7 +1,7 @@
 -- The meaning of the lines of a trace, by their spelling in bytes. A line is tokens with single spaces between.
 use Rattle.std.specs.Prelude.{◌≡◌, ◌⊎◌, ◌<◌, ℕ, List, [], ◌∷◌, ◌++◌, map, codes, decimal, Option, Some, Bool, true, false, nat_lt, All, IfSome}
 use Rattle.std.specs.Io.BufRead.{strip_last}
-use Rattle.nmgc_world_spec.specs.{declared.value.Name.Name, declared.command.Command.Command, declared.command.Reply.Reply, Command.Fits, Known.IsRegister, Known.IsOperand}
+use Rattle.nmgc_world_spec.specs.{declared.value.Name.Name, declared.command.Command.Command, declared.command.Reply.Reply, World.Fits, Known.IsRegister, Known.IsOperand}
 use Rattle.nmgc_world_spec.specs.declared.command.Reply.TheVariants as reply
 use Rattle.nmgc_snapshot_laws.specs.declared.event.Event.{Event as CoreEvent}
 use Rattle.nmgc_snapshot_laws.specs.declared.event.Event.TheVariants as core

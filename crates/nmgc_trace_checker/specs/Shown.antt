@@ -1,7 +1,7 @@
 -- How outputs are written and results are shown, for private contracts.
 use Rattle.std.specs.Prelude.{◌≡◌, ◌≤◌, ℕ, List, ◌++◌, codes, Option, Bool, Result, Ok, Err}
 use Rattle.std.specs.Io.KnownBytes.{Appends}
-use Rattle.nmgc_io.specs.{Counts.AppendsFront, Counts.Rose, declared.ends.WriteEnd.WriteEnd}
+use Rattle.nmgc_io.specs.{Text.AppendsFront, Text.Rose, declared.ends.WriteEnd.WriteEnd}
 use Rattle.nmgc_io.specs.declared.ends.WriteEnd.TheVariants.{WriteFault}
 use Rattle.nmgc_arguments.specs.{Output.text_bytes, declared.output.Text.Text}
 use Rattle.nmgc_trace_checker.specs.{declared.reading.TraceFault.TraceFault, declared.status.Status.Status, Outcomes.IsHeardUpTo, Outcomes.head_texts, Program.IsGravest, Program.IsJudged, Program.IsShown, Program.Judged}

@@ -2,7 +2,7 @@
 -- then on each line is an event of the marking machine.
 use Rattle.std.specs.Prelude.{◌≡◌, ◌≤◌, ◌↔◌, ◌⊎◌, ◌-◌, ◌^◌, ℕ, zero, suc, List, [], ◌∷◌, Option, Some, None, Result, Ok, Err, Bool, true, false, Contains}
 use Rattle.nmgc_lists.specs.declared.memory.NoMemory.{NoMemory}
-use Rattle.nmgc_world_spec.specs.{declared.value.Name.Name, World.World, World.new_world, Known.CanApply, Step.step}
+use Rattle.nmgc_world_spec.specs.{declared.value.Name.Name, World.World, World.new_world, World.step, Known.CanApply}
 use Rattle.nmgc_limits.specs.declared.mutators.TheConstants.{MAKERS}
 use Rattle.nmgc_snapshot_laws.specs.{declared.event.Event.Event, State.State, State.opening, Machine.IsPossible, Machine.Passes}
 use Rattle.nmgc_snapshot_laws.specs.declared.event.Event.TheVariants as event

@@ -6,7 +6,7 @@
 //!
 //! Easy to get wrong: the text for lack of memory may take none, so that line is written in parts.
 ghost use Rattle.std.specs.Prelude.{◌≡◌, ◌++◌, ℕ, List, [], ◌∷◌, Option, Err, codes, map, string_bytes, IfOk, IfErr, OnOk};
-ghost use Rattle.nmgc_io.specs.Counts.{Rose};
+ghost use Rattle.nmgc_io.specs.Text.{Rose};
 ghost use Rattle.nmgc_trace_checker.specs.{Outcomes.IsFault, Program.AreAnswered, Program.IsResult, Program.Ran, Program.SaysTo, Program.SaysAll, Program.is_live, Program.status_of, Program.label_of, Shown.IsShownAs, Shown.IsPassedOn, Shown.Writes, Shown.WritesOne, Shown.WritesLive};
 ghost use Rattle.nmgc_trace_checker.specs.declared.reading.TraceFault.TheVariants as fault_is;
 

@@ -3,7 +3,7 @@
 //! its answer as soon as a line can't happen.
 ghost use Rattle.std.specs.Prelude.{◌≡◌, ◌≤◌, ◌++◌, ◌&&◌, ℕ, List, [], true, codes, string_bytes, IfErr, IfOk, OnOk};
 ghost use Rattle.std.specs.{Io.BufRead.strip_last, Io.KnownBytes.Appends, Option.option_map, Str.bytes_eq};
-ghost use Rattle.nmgc_io.specs.Counts.{Rose};
+ghost use Rattle.nmgc_io.specs.Text.{Rose};
 ghost use Rattle.nmgc_trace_checker.specs.{declared.reading.TraceFault.TheVariants.NoMemory as no_memory, declared.reading.TraceFault.TheVariants.Unwritten as unwritten, Outcomes.IsFault, Outcomes.IsFaultAfter, Outcomes.IsHeardUpTo, Outcomes.IsTooLong, Outcomes.IsOutcome, Outcomes.IsMarked, Outcomes.IsWatched, Outcomes.head_texts, Outcomes.is_passed_of, Outcomes.ok_to, Said.IsNextLine, Said.ahead, Said.texts_of, Sentences.outcome_text};
 
 use crate::checker::{Answer, TraceChecker, push_answer};

@@ -1,9 +1,9 @@
 -- The queues of finalisers after a cycle was closed, and the list of weak pointers after a round.
 use Rattle.std.specs.Prelude.{Option, ℕ, ◌≡◌, ◌≤◌, List, ◌∷◌, length, map, Some, slice_get, Contains, IsSome}
 use Rattle.nmgc_world_spec.specs.{declared.value.Name.Name, declared.node.Parts.Parts, declared.node.Node.TheVariants.Weak, World.World, Known.IsWorld, World.node_of, Reach.IsInOrder, Reach.IsAlive, Reach.closed}
-use Rattle.nmgc_object.specs.{FinQueue.FinQueue, Places.InSegment, declared.layout.Layout.Layout}
-use Rattle.nmgc_alloc.specs.Numbered.{Segments}
-use Rattle.nmgc_heap_spec.specs.{Places.Place, Represents.Represents, Represents.NoNode, Roots.RepresentsRoots, Roots.ListsWeaks}
+use Rattle.nmgc_object.specs.{FinQueue.FinQueue, Words.InSegment, declared.layout.Layout.Layout}
+use Rattle.nmgc_alloc.specs.AllocState.{Segments}
+use Rattle.nmgc_heap_spec.specs.{Objects.Place, Represents.Represents, Represents.NoNode, Roots.RepresentsRoots, Roots.ListsWeaks}
 use Rattle.nmgc_round.specs.View.{Opening}
 use Rattle.nmgc_weak.specs.{Queues.weak_count, Queues.HaveRoom, Queues.AllJoin, declared.weaks.Death.Death, declared.weaks.OldWeak.OldWeak, Resolve.CanResolve, Resolve.AreDeaths, Resolve.HasResolved, Weaks.places_of, Weaks.alive_of}
 use Rattle.nmgc_mark.specs.Seen.{MarkerSeen}

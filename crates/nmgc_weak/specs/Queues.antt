@@ -3,7 +3,7 @@ use Rattle.std.specs.Prelude.{ℕ, ◌≡◌, ◌+◌, ◌<◌, ◌≤◌, ◌==
 use Rattle.nmgc_object.specs.{FinQueue.FinQueue, declared.words.TheConstants.NIL_WORD}
 use Rattle.nmgc_weak.specs.declared.weaks.Death.{Death}
 use Rattle.nmgc_world_spec.specs.World.{World, node_of}
-use Rattle.nmgc_heap_spec.specs.Places.{Place}
+use Rattle.nmgc_heap_spec.specs.Objects.{Place}
 
 -- whether the finaliser of a death joins this maker's queue: the maker made the weak pointer, and the finaliser isn't nil
 abbrev pub joins : ℕ → Death → Bool

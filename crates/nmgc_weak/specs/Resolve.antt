@@ -1,10 +1,10 @@
 -- The closing of a cycle in words and marks: its conditions, and why it is the marking machine's closing.
 use Rattle.std.specs.Prelude.{ℕ, ◌≡◌, true, List, [], ◌∷◌, Contains}
-use Rattle.nmgc_world_spec.specs.{declared.value.Name.Name, declared.node.Parts.Parts, Reach.IsAlive, Listing.AreDistinct}
+use Rattle.nmgc_world_spec.specs.{declared.value.Name.Name, declared.node.Parts.Parts, Reach.IsAlive, Reach.AreDistinct}
 use Rattle.nmgc_snapshot_laws.specs.declared.event.Event.TheVariants as event
 use Rattle.nmgc_snapshot_laws.specs.{Closing.IsClosing, Facts.Facts, Machine.IsPossible, State.State as Core}
-use Rattle.nmgc_alloc.specs.Numbered.{Segments}
-use Rattle.nmgc_heap_spec.specs.{Places.Place, Places.Means, Changes.AreEarlier, Represents.Represents, Represents.NoNode, Roots.ListsWeaks}
+use Rattle.nmgc_alloc.specs.AllocState.{Segments}
+use Rattle.nmgc_heap_spec.specs.{Objects.Place, Objects.Means, Changes.AreEarlier, Represents.Represents, Represents.NoNode, Roots.ListsWeaks}
 use Rattle.nmgc_round.specs.{Marking.marks_of, Objects.earlier, View.Opening}
 use Rattle.nmgc_mark.specs.{Seen.MarkerSeen, Stopped.IsReady, Tie.IsTied}
 use Rattle.nmgc_weak.specs.{declared.weaks.OldWeak.OldWeak, declared.weaks.Death.Death, Weaks.places_of}

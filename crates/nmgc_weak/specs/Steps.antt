@@ -1,11 +1,11 @@
 -- The effect of each step of a closing on the marking machine: the step marks more, and changes nothing else.
 use Rattle.std.specs.Prelude.{ℕ, ◌≡◌, ◌≢◌, ◌⊎◌, ◌/◌, ◌%◌, ◌++◌, List, Contains, IsSome}
-use Rattle.nmgc_world_spec.specs.{declared.value.Name.Name, declared.value.Value.Value, declared.node.Parts.Parts, World.node_of, Reach.IsAlive, Reach.IsKeptBy, Reach.IsInOrder, Listing.AreDistinct}
+use Rattle.nmgc_world_spec.specs.{declared.value.Name.Name, declared.value.Value.Value, declared.node.Parts.Parts, World.node_of, Reach.IsAlive, Reach.IsKeptBy, Reach.IsInOrder, Reach.AreDistinct}
 use Rattle.nmgc_world_spec.specs.declared.value.Value.TheVariants as value
 use Rattle.nmgc_object.specs.declared.layout.TheConstants.{SHARED_PLACE}
 use Rattle.nmgc_snapshot_laws.specs.{Closing.IsWaiting, Closing.IsClosing, State.State as Core}
-use Rattle.nmgc_alloc.specs.{Blocks.IsSnapshotAt, Blocks.IsMarkedAt, Numbered.Segments}
-use Rattle.nmgc_heap_spec.specs.Places.{Place}
+use Rattle.nmgc_alloc.specs.{Blocks.IsSnapshotAt, Blocks.IsMarkedAt, AllocState.Segments}
+use Rattle.nmgc_heap_spec.specs.Objects.{Place}
 use Rattle.nmgc_round.specs.{Marking.marks_of, View.Opening}
 use Rattle.nmgc_mark.specs.{Seen.MarkerSeen, Tie.IsTied}
 use Rattle.nmgc_weak.specs.{declared.weaks.OldWeak.OldWeak, Resolve.CanResolve, Weaks.names_of, Weaks.places_of}

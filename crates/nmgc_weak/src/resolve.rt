@@ -16,7 +16,7 @@ ghost use Rattle.std.specs.Prelude.{ℕ, ◌≡◌, ◌↔◌, ◌*◌, ◌^◌,
 ghost use Rattle.nmgc_world_spec.specs.declared.value.Name.{Name};
 ghost use Rattle.nmgc_segment.specs.Marks.{IsEpoch};
 ghost use Rattle.nmgc_alloc.specs.{Blocks.IsSnapshotAt, Blocks.IsMarkedAt, Segments.IsBlockAt};
-ghost use Rattle.nmgc_heap_spec.specs.Places.{Place};
+ghost use Rattle.nmgc_heap_spec.specs.Objects.{Place};
 ghost use Rattle.nmgc_round.specs.{View.Opening, Marking.Marks, Marking.with_name, Marking.name_meant};
 ghost use Rattle.nmgc_mark.specs.{Marker.HasRoomToMark, Marker.HasMarked, Tie.IsTied};
 ghost use Rattle.nmgc_weak.specs.{Resolve.CanResolve, Weaks.IsWithin, Weaks.AreWithin, Weaks.key_place, Weaks.place_of, Weaks.places_of, Weaks.names_of, Weaks.deaths_of, Weaks.without_values};

@@ -1,6 +1,6 @@
 -- The state of other mutators after a command, and of all mutators after a closing.
 use Rattle.std.specs.Prelude.{◌≡◌, ◌≢◌, ◌++◌, ℕ, List, length}
-use Rattle.nmgc_world_spec.specs.{declared.value.Name.Name, declared.value.Value.Value, declared.command.Command.Command, declared.mutator_state.MutatorState.MutatorState, World.World, World.state_of, Known.IsWorld, Known.CanApply, Step.step, Reach.closed}
+use Rattle.nmgc_world_spec.specs.{declared.value.Name.Name, declared.value.Value.Value, declared.command.Command.Command, declared.mutator_state.MutatorState.MutatorState, World.World, World.state_of, World.step, Known.IsWorld, Known.CanApply, Reach.closed}
 
 -- two states of a mutator have the same registers, the same finaliser queue and the same number of objects
 pub record SameHands (before after : MutatorState) : Type 0 where

@@ -1,6 +1,6 @@
 -- The limits that a script sets on worlds: numbers fit a field's word, objects fit a segment, and headers can be written.
 use Rattle.std.specs.Prelude.{◌≢◌, ◌<◌, ◌≤◌, ◌^◌, ℕ, List, IfSome, All}
-use Rattle.nmgc_world_spec.specs.{declared.value.Name.Name, declared.value.Value.Value, declared.node.Kind.Kind, declared.node.Node.Node, declared.command.Command.Command, Command.Fits, World.World, World.state_of, World.node_of, World.new_world, World.held_by, Known.IsWorld, Known.CanApply, Step.shared_name, Step.step, History.Row, History.replayed, Reach.closed}
+use Rattle.nmgc_world_spec.specs.{declared.value.Name.Name, declared.value.Value.Value, declared.node.Kind.Kind, declared.node.Node.Node, declared.command.Command.Command, World.Fits, World.World, World.state_of, World.node_of, World.new_world, World.held_by, World.shared_name, World.step, Known.IsWorld, Known.CanApply, Reach.Row, Reach.replayed, Reach.closed}
 use Rattle.nmgc_world_spec.specs.declared.value.Value.TheVariants as value
 use Rattle.nmgc_world_spec.specs.declared.node.Kind.TheVariants as kind
 use Rattle.nmgc_world_laws.specs.{Reachable.CanReplay, Shape.kind_of, Shape.tag_of, Shape.part_count, Shape.words_of}

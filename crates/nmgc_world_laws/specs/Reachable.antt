@@ -8,7 +8,7 @@
 -- has all names except the lost names of its snapshot.
 use Rattle.std.specs.Prelude.{◌≡◌, ◌⊎◌, ◌≤◌, ℕ, List, [], ◌∷◌, Bool, IsSome, IsTrue, Contains}
 use Rattle.nmgc_limits.specs.declared.mutators.TheConstants.{MAKERS}
-use Rattle.nmgc_world_spec.specs.{declared.value.Name.Name, declared.node.Parts.Parts, declared.command.Command.Command, World.World, World.state_of, World.node_of, World.new_world, Known.IsWorld, Known.CanApply, Step.next_name, Step.step, History.Row, History.replayed, History.opened, Reach.IsRoot, Reach.RefersTo, Reach.IsAlive, Reach.IsLive, Reach.Lists, Reach.closed, Wide.IsOfWeak, Wide.IsWide, Interval.Interval, Interval.IsKeptAfter, Interval.IsDeadAfter}
+use Rattle.nmgc_world_spec.specs.{declared.value.Name.Name, declared.node.Parts.Parts, declared.command.Command.Command, World.World, World.state_of, World.node_of, World.new_world, World.next_name, World.step, Known.IsWorld, Known.CanApply, Reach.Row, Reach.replayed, Reach.opened, Reach.IsRoot, Reach.RefersTo, Reach.IsAlive, Reach.IsLive, Reach.Lists, Reach.closed, Reach.IsOfWeak, Reach.IsWide, Interval.Interval, Interval.IsKeptAfter, Interval.IsDeadAfter}
 use Rattle.nmgc_world_laws.specs.Holds.{CoversReach}
 
 -- a set that has all names that the world holds: the roots, the names in strong fields of the set's names, and each weak

@@ -1,6 +1,6 @@
 -- The shape of an object: its kind, its tag and its number of fields. No command changes it, so size and header stay.
 use Rattle.std.specs.Prelude.{◌≡◌, ◌+◌, ℕ, List, [], length, replicate, Option, Some, None}
-use Rattle.nmgc_world_spec.specs.{declared.value.Name.Name, declared.node.Kind.Kind, declared.node.Node.Node, declared.node.Node.TheVariants.Con, declared.node.Node.TheVariants.Var, declared.node.Node.TheVariants.Arr, declared.node.Node.TheVariants.Thunk, declared.node.Node.TheVariants.Weak, declared.node.Node.TheVariants.Stack, declared.command.Command.Command, World.World, World.node_of, Known.IsWorld, Known.CanApply, Step.value_for, Pieces.values_for, Step.step, History.Row, History.replayed, Reach.closed}
+use Rattle.nmgc_world_spec.specs.{declared.value.Name.Name, declared.node.Kind.Kind, declared.node.Node.Node, declared.node.Node.TheVariants.Con, declared.node.Node.TheVariants.Var, declared.node.Node.TheVariants.Arr, declared.node.Node.TheVariants.Thunk, declared.node.Node.TheVariants.Weak, declared.node.Node.TheVariants.Stack, declared.command.Command.Command, World.World, World.node_of, World.value_for, World.step, Known.IsWorld, Known.CanApply, Pieces.values_for, Reach.Row, Reach.replayed, Reach.closed}
 use Rattle.nmgc_world_spec.specs.declared.node.Kind.TheVariants as kind
 use Rattle.nmgc_world_spec.specs.declared.command.Command.TheVariants as command
 use Rattle.nmgc_world_laws.specs.Reachable.{CanReplay}

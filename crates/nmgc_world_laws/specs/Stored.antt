@@ -4,7 +4,7 @@
 -- reference to a nursery object is in an old object only if a command stored it. That command reached the old object, so the
 -- object was in the wide reach as the round began. The parts of an old weak pointer never change, so they are old too.
 use Rattle.std.specs.Prelude.{◌≡◌, ◌⊎◌, ◌++◌, ℕ, List, ◌∷◌, length, Option, Some, None, IsSome}
-use Rattle.nmgc_world_spec.specs.{declared.value.Name.Name, declared.value.Value.Value, declared.node.Parts.Parts, declared.node.Node.Node, declared.node.Node.TheVariants.Stack, declared.change.Change.Change, declared.command.Command.Command, declared.command.Command.TheVariants.Finalise, declared.command.Operand.Operand, World.World, World.state_of, World.node_of, Known.IsWorld, Known.CanApply, Step.next_name, Step.value_for, Written.asked, Step.step, History.Row, History.replayed, Reach.IsAlive, Wide.IsWide}
+use Rattle.nmgc_world_spec.specs.{declared.value.Name.Name, declared.value.Value.Value, declared.node.Parts.Parts, declared.node.Node.Node, declared.node.Node.TheVariants.Stack, declared.change.Change.Change, declared.command.Command.Command, declared.command.Command.TheVariants.Finalise, declared.command.Operand.Operand, World.World, World.state_of, World.node_of, World.next_name, World.value_for, World.step, Known.IsWorld, Known.CanApply, Written.asked, Reach.Row, Reach.replayed, Reach.IsAlive, Reach.IsWide}
 use Rattle.nmgc_world_spec.specs.declared.value.Value.TheVariants as value
 use Rattle.nmgc_world_spec.specs.declared.change.Change.TheVariants as change
 use Rattle.nmgc_world_laws.specs.{Holds.HasStrongField, Reachable.CanReplay}

@@ -1,6 +1,6 @@
 -- Dead weak pointers and kept names after some commands, judged by the snapshot with which the commands began.
 use Rattle.std.specs.Prelude.{List}
-use Rattle.nmgc_world_spec.specs.{World.World, History.Row, History.opened, History.finalised, declared.value.Name.Name, Reach.IsDead, Reach.IsKept}
+use Rattle.nmgc_world_spec.specs.{World.World, Reach.Row, Reach.opened, Reach.finalised, Reach.IsDead, Reach.IsKept, declared.value.Name.Name}
 
 -- an interval: a snapshot, and the commands since
 pub record Interval : Type 0 where

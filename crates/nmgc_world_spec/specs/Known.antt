@@ -1,6 +1,6 @@
 -- Worlds whose names are all known, and the commands that such a world can take.
 use Rattle.std.specs.Prelude.{◌≡◌, ℕ, ◌+◌, ◌<◌, ◌≤◌, ◌^◌, List, length, Option, Some, None, IsSome, IfSome, All, ◌-◌}
-use Rattle.nmgc_world_spec.specs.{declared.value.Name.Name, declared.value.Value.Value, declared.node.Node.Node, declared.node.Node.TheVariants.Stack, declared.command.Reply.Reply, declared.command.Reply.TheVariants.Given, declared.change.Change.Change, declared.command.Operand.Operand, declared.command.Command.Command, World.World, World.state_of, World.serial_of, World.node_of, Command.HasRegistersBelow, World.held_by, World.IsShared, Command.IsOperandBelow}
+use Rattle.nmgc_world_spec.specs.{declared.value.Name.Name, declared.value.Value.Value, declared.node.Node.Node, declared.node.Node.TheVariants.Stack, declared.command.Reply.Reply, declared.command.Reply.TheVariants.Given, declared.change.Change.Change, declared.command.Operand.Operand, declared.command.Command.Command, World.World, World.state_of, World.serial_of, World.node_of, World.HasRegistersBelow, World.held_by, World.IsShared, World.IsOperandBelow}
 use Rattle.nmgc_limits.specs.declared.mutators.TheConstants.{REGISTERS, MAKERS}
 use Rattle.nmgc_world_spec.specs.declared.value.Value.TheVariants as value
 use Rattle.nmgc_world_spec.specs.declared.change.Change.TheVariants as change

@@ -1,15 +1,8 @@
-pub mod Change
-pub mod Command
-pub mod History
 pub mod Interval
 pub mod Known
-pub mod Listing
 pub mod Order
-pub mod Owed
 pub mod Pieces
 pub mod Reach
-pub mod Step
-pub mod Wide
 pub mod World
 pub mod Written
 pub mod laws

@@ -1,7 +1,7 @@
 -- Names for parts of the step, of the opened names and of the owed values. Contracts of single functions and proofs use them;
 -- no clause of the programs cites this module.
 use Rattle.std.specs.Prelude.{◌≡◌, ◌⊎◌, ℕ, ◌-◌, List, [], ◌∷◌, ◌++◌, length, map, drop, slice_get, slice_set, take, filter, Option, Some, None, Bool, if◌then◌else◌, option_to_list}
-use Rattle.nmgc_world_spec.specs.{declared.value.Name.Name, declared.value.Value.Value, declared.node.Parts.Parts, declared.node.Node.Node, declared.node.Node.TheVariants.Thunk, declared.node.Node.TheVariants.Weak, declared.node.Node.TheVariants.Stack, declared.command.Operand.Operand, declared.command.Reply.Reply, declared.command.Reply.TheVariants.NoPointer, declared.command.Reply.TheVariants.Yes, declared.command.Reply.TheVariants.No, declared.command.Reply.TheVariants.Given, declared.change.Change.Change, declared.mutator_state.MutatorState.MutatorState, World.World, World.state_of, Change.is_same, Change.last_of, Change.if_there, Change.changed, Step.value_of, Step.keeping, Step.next_name, Step.with_node, History.name_in, History.from_alive, Owed.owed_in, Reach.IsRoot, Reach.IsAlive, Wide.IsOfWeak}
+use Rattle.nmgc_world_spec.specs.{declared.value.Name.Name, declared.value.Value.Value, declared.node.Parts.Parts, declared.node.Node.Node, declared.node.Node.TheVariants.Thunk, declared.node.Node.TheVariants.Weak, declared.node.Node.TheVariants.Stack, declared.command.Operand.Operand, declared.command.Reply.Reply, declared.command.Reply.TheVariants.NoPointer, declared.command.Reply.TheVariants.Yes, declared.command.Reply.TheVariants.No, declared.command.Reply.TheVariants.Given, declared.change.Change.Change, declared.mutator_state.MutatorState.MutatorState, World.World, World.state_of, World.is_same, World.last_of, World.if_there, World.changed, World.value_of, World.keeping, World.next_name, World.with_node, Reach.name_in, Reach.from_alive, Reach.owed_in, Reach.IsRoot, Reach.IsAlive, Reach.IsOfWeak}
 use Rattle.nmgc_world_spec.specs.declared.value.Value.TheVariants as value
 
 -- all values except the last

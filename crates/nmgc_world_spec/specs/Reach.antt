@@ -1,8 +1,14 @@
+-- Live, dead and kept names of a world; the history of a round; the deletion barrier; lists and counts; the wide reach.
+--
 -- Reachability in a world, by the weak-pointer rule. While a weak pointer's key is live, the weak pointer, its value and its
 -- finaliser are live too, even if nothing refers to the weak pointer. Each set is the least one with its rules: each
 -- constructor is a rule, and there are no further members.
-use Rattle.std.specs.Prelude.{◌≡◌, ◌⊎◌, ℕ, zero, suc, ◌<◌, List, [], ◌∷◌, ◌++◌, slice_get, Option, Some, None, IsSome, Contains}
-use Rattle.nmgc_world_spec.specs.{declared.value.Name.Name, declared.value.Value.Value, declared.node.Parts.Parts, declared.node.Node.Node, declared.node.Node.TheVariants.Con, declared.node.Node.TheVariants.Var, declared.node.Node.TheVariants.Arr, declared.node.Node.TheVariants.Thunk, declared.node.Node.TheVariants.Weak, declared.node.Node.TheVariants.Stack, declared.mutator_state.MutatorState.MutatorState, World.World, World.state_of, World.node_of, Step.shared_name, Step.with_state, Step.with_node}
+use Rattle.std.specs.Prelude.{Contains, IsSome, List, None, Option, Some, [], filter, flat_map, if◌then◌else◌, length, option_to_list, slice_get, suc, zero, ℕ, ◌++◌, ◌<◌, ◌==◌, ◌∷◌, ◌≡◌, ◌≤◌, ◌⊎◌}
+use Rattle.nmgc_world_spec.specs.World.{World, if_there, is_same, last_of, node_of, object_of, shared_name, state_of, step, value_for, with_node, with_state}
+use Rattle.nmgc_world_spec.specs.declared.command.Command.TheVariants.{Cas, Deref, Finalise, Pop, Push, Set, Update}
+use Rattle.nmgc_world_spec.specs.declared.node.Node.TheVariants.{Arr, Con, Stack, Thunk, Var, Weak}
+use Rattle.nmgc_world_spec.specs.{declared.change.Change.Change, declared.command.Command.Command, declared.command.Reply.Reply, declared.mutator_state.MutatorState.MutatorState, declared.node.Node.Node, declared.node.Parts.Parts, declared.value.Name.Name, declared.value.Value.Value, declared.value.Value.TheVariants.Ref}
+use Rattle.nmgc_world_spec.specs.declared.change.Change.TheVariants as change
 use Rattle.nmgc_world_spec.specs.declared.value.Value.TheVariants as value
 
 -- the values in a node's strong fields: of a thunk its result, or else its free variables; of a weak pointer none
@@ -55,7 +61,8 @@ IsPlain _ = Unit {0}
 abbrev pub IsKeptBy : Name → Parts → Name → Type 0
 IsKeptBy weak parts target = (target ≡ weak) ⊎ (parts.value ≡ value.Ref target) ⊎ (parts.finaliser ≡ value.Ref target)
 
--- the live names, the least set with roots, further names, strong fields, and what weak pointers with plain or live keys keep
+-- the live names: the least set that follows strong fields, and has the roots and the further names that have a node. It also
+-- has each weak pointer that is alive with a plain or live key, and the names in its value and its finaliser
 pub data IsLive (w : World) (extra : List Name) : Name → Type 0 where
   root : (name : Name) → IsRoot w name → IsLive w extra name
   further : (name : Name) → Contains extra name → IsSome (node_of w name) → IsLive w extra name
@@ -115,3 +122,145 @@ closed w (weak ∷ weaks) = closed (closed_by w weak (node_of w weak)) weaks
 -- the name names a weak pointer that is alive
 abbrev pub IsAliveWeak : World → Name → Type 0
 IsAliveWeak w weak = (parts : Parts) × IsAlive w weak parts
+
+-- a row of a history: a command, its mutator and its reply; the history of a round is a list of rows, in one order
+pub record Row : Type 0 where
+  pub mutator : ℕ
+  pub command : Command
+  pub reply : Reply
+
+-- the world after the commands of rows, in their order
+abbrev pub replayed : World → List Row → World
+replayed w [] = w
+replayed w (row ∷ rows) = replayed (step w row.mutator row.command).0 rows
+
+-- a legal history: each reply is the world's reply at that position (the field's word: linearization)
+abbrev pub IsLegal : World → List Row → Type 0
+IsLegal w [] = Unit {0}
+IsLegal w (row ∷ rows) = ((step w row.mutator row.command).1 ≡ row.reply) × IsLegal (step w row.mutator row.command).0 rows
+
+-- the property holds in every world of a history: in the world with which it begins, and after each row
+abbrev pub HoldsThroughout : (World → Type 0) → World → List Row → Type 0
+HoldsThroughout P w [] = P w
+HoldsThroughout P w (row ∷ rows) = P w × HoldsThroughout P (step w row.mutator row.command).0 rows
+
+-- the rows of one mutator, in their order
+abbrev pub rows_of : ℕ → List Row → List Row
+rows_of m rows = filter (λ row. row.mutator == m) rows
+
+-- the rows are the mutators' own rows in one order, and each mutator's rows are in its own order
+abbrev pub IsOrderOf : (ℕ → List Row) → List Row → Type 0
+IsOrderOf own rows = (m : ℕ) → rows_of m rows ≡ own m
+
+-- the name that a value refers to, if it refers to one
+abbrev pub name_in : Value → List Name
+name_in (value.Ref name) = name ∷ []
+name_in _ = []
+
+-- the items that `take` gives for the parts of a weak pointer that is alive; none for any other object
+abbrev pub from_alive : {T : Type 0} → (Parts → List T) → Option Node → List T
+from_alive take (Some (Weak (Some parts))) = take parts
+from_alive take _ = []
+
+-- the names that a command opens: in the value that `deref` reads, or in the value and finaliser that `finalise` takes
+abbrev pub opened_by : World → ℕ → Command → List Name
+opened_by w m (Deref dest object) = from_alive (λ parts. name_in parts.value) (object_of w (value_for w m object))
+opened_by w m (Finalise dest object) = from_alive (λ parts. name_in parts.value ++ name_in parts.finaliser) (object_of w (value_for w m object))
+opened_by w m _ = []
+
+-- the weak pointer that a command makes dead, if the command is a `finalise` of a weak pointer that is alive
+abbrev pub finalised_by : World → ℕ → Command → List Name
+finalised_by w m (Finalise dest object) = from_alive (λ parts. name_in (value_for w m object)) (object_of w (value_for w m object))
+finalised_by w m _ = []
+
+-- the opened names of a history that begins with this world: those that its commands open
+abbrev pub opened : World → List Row → List Name
+opened w [] = []
+opened w (row ∷ rows) = opened_by w row.mutator row.command ++ opened (step w row.mutator row.command).0 rows
+
+-- the finalised names of a history that begins with this world: the weak pointers that `finalise` made dead
+abbrev pub finalised : World → List Row → List Name
+finalised w [] = []
+finalised w (row ∷ rows) = finalised_by w row.mutator row.command ++ finalised (step w row.mutator row.command).0 rows
+
+-- the field at an index of a variable or an array, the two kinds whose fields can be written
+abbrev pub field_held : Node → ℕ → Option Value
+field_held (Var v) index = slice_get (v ∷ []) index
+field_held (Arr values) index = slice_get values index
+field_held _ index = None
+
+-- the values owed for a change of a name's node: the values that the change takes out, and a weak pointer that the change makes
+-- dead, without its key
+abbrev pub owed_in : Change → Name → Node → List Value
+owed_in (change.Set index v) name node = option_to_list (field_held node index)
+owed_in (change.Exchange index expected v) name node = filter (λ old. is_same old expected) (option_to_list (field_held node index))
+owed_in (change.Update v) name (Thunk free None) = free
+owed_in (change.Pop m) name (Stack size values) = if name.maker == m then option_to_list (last_of values) else []
+owed_in change.Finalise name (Weak (Some parts)) = value.Ref name ∷ parts.value ∷ parts.finaliser ∷ []
+owed_in _ name node = []
+
+-- the values owed for a change of the object that a value refers to
+abbrev pub owed_of : World → Value → Change → List Value
+owed_of w (value.Ref name) c = if_there [] (λ node. owed_in c name node) (node_of w name)
+owed_of w _ c = []
+
+-- the values that a command owes in a world: the value of a weak pointer that is read, or the values owed for its change
+abbrev pub values_owed : World → ℕ → Command → List Value
+values_owed w m (Deref dest object) = from_alive (λ parts. parts.value ∷ []) (object_of w (value_for w m object))
+values_owed w m (Set object index v) = owed_of w (value_for w m object) (change.Set index (value_for w m v))
+values_owed w m (Cas object index expected v) = owed_of w (value_for w m object) (change.Exchange index (value_for w m expected) (value_for w m v))
+values_owed w m (Update object v) = owed_of w (value_for w m object) (change.Update (value_for w m v))
+values_owed w m (Push object v) = owed_of w (value_for w m object) (change.Push m (value_for w m v))
+values_owed w m (Pop dest object) = owed_of w (value_for w m object) (change.Pop m)
+values_owed w m (Finalise dest object) = owed_of w (value_for w m object) change.Finalise
+values_owed w m _ = []
+
+-- the names that the references among the values name
+abbrev pub names_among : List Value → List Name
+names_among values = flat_map name_in values
+
+-- the objects that a command owes, the deletion barrier: the names in the values that it owes
+abbrev pub owed_by : World → ℕ → Command → List Name
+owed_by w m c = names_among (values_owed w m c)
+
+-- each number is less than the next
+abbrev pub Ascends : List ℕ → Type 0
+Ascends [] = Unit {0}
+Ascends (n ∷ []) = Unit {0}
+Ascends (n ∷ next ∷ ns) = (n < next) × Ascends (next ∷ ns)
+
+-- the numbers are exactly those with property P, in ascending order
+pub record ListsNumbers (P : ℕ → Type 0) (numbers : List ℕ) : Type 0 where
+  pub ordered : Ascends numbers
+  pub sound : (n : ℕ) → Contains numbers n → P n
+  pub complete : (n : ℕ) → P n → Contains numbers n
+
+-- no name is in the list twice
+abbrev pub AreDistinct : List Name → Type 0
+AreDistinct [] = Unit {0}
+AreDistinct (name ∷ names) = (Contains names name → ⊥) × AreDistinct names
+
+-- exactly `count` names have property P
+abbrev pub Counts : (Name → Type 0) → ℕ → Type 0
+Counts P count = (names : List Name) × Lists P names × (count ≡ length names)
+
+-- at most `count` names have property P
+abbrev pub AtMost : (Name → Type 0) → ℕ → Type 0
+AtMost P count = (names : List Name) → AreDistinct names → ((name : Name) → Contains names name → P name) → length names ≤ count
+
+-- more than `count` names have property P
+abbrev pub MoreThan : (Name → Type 0) → ℕ → Type 0
+MoreThan P count = (names : List Name) × AreDistinct names × ((name : Name) → Contains names name → P name) × (count < length names)
+
+-- The wide reach: each name that a mutator could still hold later.
+--
+-- A weak pointer that is alive gives its value to any mutator that reads it, and its finaliser to a queue once it dies. It
+-- does so even if nothing refers to it. So the wide reach begins with these weak pointers too.
+
+-- the name is the weak pointer itself, or one of the weak pointer's three parts refers to it
+abbrev pub IsOfWeak : Name → Parts → Name → Type 0
+IsOfWeak weak parts name = (name ≡ weak) ⊎ ((parts.key ≡ Ref name) ⊎ ((parts.value ≡ Ref name) ⊎ (parts.finaliser ≡ Ref name)))
+
+-- the wide reach, the project's own: what strong fields reach from roots, and from weak pointers that are alive and their parts
+abbrev pub IsWide : World → Name → Type 0
+IsWide w = IsReached w (λ name. IsRoot w name ⊎ ((weak : Name) × (parts : Parts) × IsAlive w weak parts × IsOfWeak weak parts name))

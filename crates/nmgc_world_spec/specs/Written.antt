@@ -1,6 +1,6 @@
 -- The effect of a change in two parts: whether its reply says that it is done, and the node that it leaves then.
 use Rattle.std.specs.Prelude.{ℕ, [], ◌∷◌, ◌++◌, length, slice_get, slice_set, Option, Some, None, Bool, true, false, nat_lt, if◌then◌else◌}
-use Rattle.nmgc_world_spec.specs.{declared.value.Value.Value, declared.node.Node.Node, declared.node.Node.TheVariants.Con, declared.node.Node.TheVariants.Var, declared.node.Node.TheVariants.Arr, declared.node.Node.TheVariants.Thunk, declared.node.Node.TheVariants.Weak, declared.node.Node.TheVariants.Stack, declared.command.Reply.Reply, declared.change.Change.Change, declared.command.Command.Command, declared.command.Command.TheVariants.Set, declared.command.Command.TheVariants.Cas, declared.command.Command.TheVariants.Update, declared.command.Command.TheVariants.Push, declared.command.Command.TheVariants.Pop, declared.command.Command.TheVariants.Finalise, declared.command.Reply.TheVariants.Fine, declared.command.Reply.TheVariants.Yes, declared.command.Reply.TheVariants.Updated, declared.command.Reply.TheVariants.Given, World.World, Pieces.without_last, Step.value_for, Step.change_object}
+use Rattle.nmgc_world_spec.specs.{declared.value.Value.Value, declared.node.Node.Node, declared.node.Node.TheVariants.Con, declared.node.Node.TheVariants.Var, declared.node.Node.TheVariants.Arr, declared.node.Node.TheVariants.Thunk, declared.node.Node.TheVariants.Weak, declared.node.Node.TheVariants.Stack, declared.command.Reply.Reply, declared.change.Change.Change, declared.command.Command.Command, declared.command.Command.TheVariants.Set, declared.command.Command.TheVariants.Cas, declared.command.Command.TheVariants.Update, declared.command.Command.TheVariants.Push, declared.command.Command.TheVariants.Pop, declared.command.Command.TheVariants.Finalise, declared.command.Reply.TheVariants.Fine, declared.command.Reply.TheVariants.Yes, declared.command.Reply.TheVariants.Updated, declared.command.Reply.TheVariants.Given, World.World, World.value_for, World.change_object, Pieces.without_last}
 use Rattle.nmgc_world_spec.specs.declared.change.Change.TheVariants as change
 
 -- the field at this index, if the node is a constructor, a variable or an array and has such a field; otherwise none

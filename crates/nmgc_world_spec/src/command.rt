@@ -1,6 +1,6 @@
 //! Commands and their replies.
 ghost use Rattle.std.specs.Prelude.{◌≡◌, ◌<◌};
-ghost use Rattle.nmgc_world_spec.specs.{Known.IsMaking, Command.words_made};
+ghost use Rattle.nmgc_world_spec.specs.{Known.IsMaking, World.words_made};
 
 use crate::Value;
 use nmgc_lists::List;

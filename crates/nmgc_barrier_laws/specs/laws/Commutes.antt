@@ -2,13 +2,13 @@
 use Rattle.std.proofs.Common.{◌≡◌, ℕ, List, [], ◌∷◌, zero, suc, map, set, refl, sym, ap, subst, ◌∙◌, Bool, true, false, Option, Some, None, inl, inr}
 use Rattle.std.specs.Prelude.{slice_get, slice_set}
 use Rattle.nmgc_limits.specs.declared.mutators.TheConstants.{SHARED_MAKER}
-use Rattle.nmgc_world_spec.specs.{declared.command.Operand.Operand, declared.command.Command.Command, declared.command.Reply.Reply, declared.change.Change.Change, declared.value.Name.Name, declared.value.Value.Value, declared.node.Node.Node, declared.mutator_state.MutatorState.MutatorState, World.World, World.state_of, World.node_of, Change.changed, Change.field_read, Change.result_read, Change.value_read, Pieces.given_or, History.opened_by, History.finalised_by, Pieces.opened_in, Pieces.finalised_in, History.from_alive, History.name_in}
+use Rattle.nmgc_world_spec.specs.{declared.command.Operand.Operand, declared.command.Command.Command, declared.command.Reply.Reply, declared.change.Change.Change, declared.value.Name.Name, declared.value.Value.Value, declared.node.Node.Node, declared.mutator_state.MutatorState.MutatorState, World.World, World.state_of, World.node_of, World.changed, World.field_read, World.result_read, World.value_read, World.value_of, World.value_for, World.with_state, World.with_node, World.keeping, World.object_of, World.change_object, World.change_into, World.next_name, World.step, Pieces.given_or, Reach.opened_by, Reach.finalised_by, Reach.from_alive, Reach.name_in, Pieces.opened_in, Pieces.finalised_in}
 use Rattle.nmgc_world_spec.specs.declared.command.Command.TheVariants.{Num, Nil, Mov, Con, Var, Arr, Thunk, Weak, Stack, Get, Set, Cas, Update, Force, Push, Pop, Deref, Finalise, NextFin, Show, Same, Yield, Collect, Full}
 use Rattle.nmgc_world_spec.specs.declared.command.Reply.TheVariants as reply
 use Rattle.nmgc_world_spec.specs.declared.change.Change.TheVariants as change
 use Rattle.nmgc_world_spec.specs.declared.value.Value.TheVariants as value
 use Rattle.nmgc_world_spec.specs.declared.node.Node.TheVariants as node
-use Rattle.nmgc_world_spec.specs.{Step.value_of, Step.value_for, Step.with_state, Pieces.with_nth, Step.with_node, Pieces.with_new, Pieces.with_finaliser, Pieces.holding, Step.keeping, Step.object_of, Pieces.read_object, Pieces.read_into, Pieces.change_node, Step.change_object, Step.change_into, Step.next_name, Pieces.same_reply, Step.step}
+use Rattle.nmgc_world_spec.specs.Pieces.{with_nth, with_new, with_finaliser, holding, read_object, read_into, change_node, same_reply}
 use Rattle.std.proofs.lemmas.Bool.Decides.{eqb_tells}
 use Rattle.nmgc_barrier_laws.specs.{Hybrid.veil, Hybrid.hide, Hybrid.hidden, laws.Veil.hidden_state, laws.Veil.hidden_node}
 

@@ -2,7 +2,7 @@
 -- push only hands over; a take marks and then hands over.
 use Rattle.std.proofs.{Common.◌≡◌, Common.◌≢◌, Common.◌<◌, Common.ℕ, Common.List, Common.[], Common.◌∷◌, Common.◌++◌, Common.length, Common.refl, Common.sym, Common.subst, Common.arith, Common.length-set, Common.Bool, Common.true, Common.false, Common.cond, lemmas.List.Elements.All-head, lemmas.List.Elements.Contains-append_right}
 use Rattle.std.specs.Prelude.{IsSome, All, Contains}
-use Rattle.nmgc_world_spec.specs.{declared.value.Name.Name, World.node_of, Known.IsWorld, Known.CanApply, declared.command.Command.Command, Owed.owed_by}
+use Rattle.nmgc_world_spec.specs.{declared.value.Name.Name, World.node_of, Known.IsWorld, Known.CanApply, declared.command.Command.Command, Reach.owed_by}
 use Rattle.nmgc_snapshot_laws.specs.{State.State, State.names_of, State.mark_name, State.with_mark, State.is_new, Machine.after_push, Machine.after_take, Machine.after_command, Machine.after_scan, laws.Listed.names_same, laws.Marking.mark_facts, laws.Marking.marked_then, Facts.MayHold, Facts.Facts, Facts.owed, Facts.pushed, Facts.marked, laws.Handing.dropped}
 use Rattle.nmgc_snapshot_laws.specs.declared.event.Event.TheVariants as event
 use Rattle.nmgc_barrier_laws.specs.{Lax.IsGiven, Lax.IsShuffled, Lax.IsLax, Lax.LaxSteps, laws.Given.owes_may, laws.Given.due_owed}

@@ -1,7 +1,7 @@
 -- A command that owes at least the names that are due, and at most names that may be held, keeps the facts.
 use Rattle.std.proofs.{Common.◌≡◌, Common.◌<◌, Common.◌≤◌, Common.ℕ, Common.List, Common.◌++◌, Common.length, Common.refl, Common.sym, Common.subst, Common.◌∙◌, Common.arith, Common.length-set, Common.Option, Common.Some, Common.None, Common.inl, Common.inr, Common.◌⊎◌, Common.ap, lemmas.List.Elements.All-append, lemmas.List.Elements.Contains-append_left, lemmas.List.Elements.Contains-append_cases, lemmas.Bool.cases_eq}
 use Rattle.std.specs.Prelude.{IsSome, All, Contains}
-use Rattle.nmgc_world_spec.specs.{declared.value.Name.Name, declared.value.Value.Value, declared.node.Parts.Parts, declared.node.Node.Node, declared.node.Node.TheVariants.Weak, declared.command.Command.Command, World.World, World.node_of, World.serial_of, Known.IsWorld, Step.shared_name, Step.step, Reach.IsAlive, Reach.IsKeptBy, History.opened_by, History.finalised_by, laws.Orders.name_cases, Owed.values_owed, Owed.owed_by}
+use Rattle.nmgc_world_spec.specs.{declared.value.Name.Name, declared.value.Value.Value, declared.node.Parts.Parts, declared.node.Node.Node, declared.node.Node.TheVariants.Weak, declared.command.Command.Command, World.World, World.node_of, World.serial_of, World.shared_name, World.step, Known.IsWorld, Reach.IsAlive, Reach.IsKeptBy, Reach.opened_by, Reach.finalised_by, Reach.values_owed, Reach.owed_by, laws.Orders.name_cases}
 use Rattle.nmgc_world_spec.specs.declared.value.Value.TheVariants as value
 use Rattle.nmgc_world_laws.specs.{Holds.StillThere, Holds.HasStrongField, Holds.strong_at, laws.Moves.RespectsBarrier, laws.WeakMoves.opened_owed, laws.WeakMoves.Ends, laws.WeakMoves.finalised_owed}
 use Rattle.nmgc_snapshot_laws.specs.{Facts.MayHold, Facts.IsSafe, Facts.IsAhead, Facts.Kept, Facts.Base, Facts.Facts, Facts.owed, Facts.pushed, Facts.queued, Facts.marked, Facts.unmarked, State.State, State.names_of, laws.Lives.live_more, laws.Lives.target_there, laws.Lives.part_there, laws.Lives.refers, laws.Listed.each_names, laws.Listed.names_same, laws.Listed.names_other, laws.Listed.names_among_have, laws.Listed.name_among, Machine.after_command}

@@ -4,10 +4,10 @@ use Rattle.std.proofs.Common.{◌≡◌, ◌≢◌, ◌<◌, ◌≤◌, ℕ, Lis
 use Rattle.std.specs.Prelude.{IsSome, IfSome, All, Contains}
 use Rattle.std.proofs.{lemmas.List.Elements.All-append, lemmas.List.Elements.Contains-append_left, lemmas.List.Elements.Contains-append_right, lemmas.List.Elements.Contains-append_cases, lemmas.List.Elements.Contains-get_or, lemmas.Bool.cases_eq}
 use Rattle.nmgc_limits.specs.declared.mutators.TheConstants.{SHARED_MAKER}
-use Rattle.nmgc_world_spec.specs.{declared.value.Name.Name, declared.value.Value.Value, declared.node.Parts.Parts, declared.node.Node.Node, declared.node.Node.TheVariants.Weak, declared.command.Command.Command, Step.shared_name, Step.step, Known.CanApply, History.opened_by, History.finalised_by, Owed.values_owed, laws.Orders.name_cases}
+use Rattle.nmgc_world_spec.specs.{declared.value.Name.Name, declared.value.Value.Value, declared.node.Parts.Parts, declared.node.Node.Node, declared.node.Node.TheVariants.Weak, declared.command.Command.Command, World.shared_name, World.step, World.World, World.state_of, World.node_of, World.serial_of, World.parts_held, Known.CanApply, laws.Orders.name_cases}
 use Rattle.nmgc_world_spec.specs.declared.value.Value.TheVariants as value
-use Rattle.nmgc_world_spec.specs.{World.World, World.state_of, World.node_of, World.serial_of, World.parts_held, Known.IsWorld, Known.Grows}
-use Rattle.nmgc_world_spec.specs.Reach.{IsAlive, IsKeptBy, RefersTo, strong_fields, further, field, root}
+use Rattle.nmgc_world_spec.specs.Known.{IsWorld, Grows}
+use Rattle.nmgc_world_spec.specs.Reach.{IsAlive, IsKeptBy, RefersTo, strong_fields, further, field, root, opened_by, finalised_by, values_owed}
 use Rattle.nmgc_world_laws.specs.{Leaves.SameHands, laws.Growth.step_grows, laws.Worlds.not_shared, laws.NodeLaws.next_is_new, laws.Keeps.step_leaves_others, laws.Alive.AliveOk, laws.Alive.WeaksOk, laws.Alive.step_weaks, laws.HeldSteps.alive_ok as each_weak, laws.Moves.RespectsBarrier, laws.WeakMoves.all_moves, laws.WeakMoves.Ends, laws.WeakMoves.finalised_owed}
 use Rattle.nmgc_world_laws.specs.Holds.{Names, Fields, CoversReach, StillThere, HasStrongField}
 use Rattle.nmgc_lists.specs.laws.Items.{at_some, contains_cases, contains_head, contains_tail, nothing_in}
@@ -305,7 +305,7 @@ module _ (shown : ℕ → Bool) (s : State) (f : Facts (veiled shown s)) (w : Is
   next_ended weak h there = elim (Contains-append_cases s.finalised (finalised_by s.world m c) weak h) [
     | inl old ↦ still_safe weak (f.ended weak old there)
     | inr new ↦
-        let ends : Ends s.world weak (Rattle.nmgc_world_spec.specs.Owed.owed_by s.world m c) = finalised_owed s.world m c weak new in
+        let ends : Ends s.world weak (Rattle.nmgc_world_spec.specs.Reach.owed_by s.world m c) = finalised_owed s.world m c weak new in
         due_safe weak (λ ne. record {
           there = there;
           own = ne;

@@ -2,7 +2,7 @@
 use Rattle.std.proofs.Common.{◌≡◌, ◌<◌, ℕ, List, ◌++◌, length, refl, sym, subst, ◌∙◌, arith, Bool, true, inl, inr, ap}
 use Rattle.std.specs.Prelude.{IsSome, All}
 use Rattle.std.proofs.{lemmas.List.append_assoc, lemmas.List.Elements.Contains-append_right}
-use Rattle.nmgc_world_spec.specs.{declared.value.Name.Name, declared.command.Command.Command, declared.command.Reply.Reply, World.World, World.node_of, Known.IsWorld, Step.step, Known.CanApply, Reach.IsAlive, History.opened_by, History.finalised_by, Owed.owed_by}
+use Rattle.nmgc_world_spec.specs.{declared.value.Name.Name, declared.command.Command.Command, declared.command.Reply.Reply, World.World, World.node_of, World.step, Known.IsWorld, Known.CanApply, Reach.IsAlive, Reach.opened_by, Reach.finalised_by, Reach.owed_by}
 use Rattle.nmgc_snapshot_laws.specs.{State.State, State.names_of, Machine.after_command, Facts.MayHold, Facts.IsSafe, Facts.Facts, Facts.owed, Facts.pushed, Facts.marked, laws.Listed.names_same}
 use Rattle.nmgc_barrier_laws.specs.{Due.IsDue, Lax.after_owing, Hybrid.hidden, Hybrid.after_owing_in, laws.Given.given_facts, laws.Given.owes_may, laws.Given.due_owed, laws.Veil.hide_length, laws.Veil.hidden_node, laws.Commutes.over, laws.Commutes.same_step, laws.Commutes.same_opened, laws.Commutes.same_finalised, laws.HybridCommand.veiled, laws.HybridFacts.hidden_world, laws.HybridFacts.widened_facts}
 

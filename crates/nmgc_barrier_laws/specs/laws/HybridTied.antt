@@ -3,7 +3,7 @@
 use Rattle.std.proofs.Common.{◌≡◌, ◌<◌, ℕ, List, ◌++◌, zero, suc, length, get_or, set, replicate, refl, sym, ap, subst, ◌∙◌, arith, length-set, inl, inr, ◌⊎◌, Bool, true, false}
 use Rattle.std.specs.Prelude.{IsSome, Contains, All, ◌↔◌}
 use Rattle.std.proofs.{lemmas.List.get_or-set_other, lemmas.List.Elements.Contains-append_left, lemmas.List.Elements.Contains-append_right, lemmas.List.Elements.Contains-append_cases, lemmas.Bool.cases_eq}
-use Rattle.nmgc_world_spec.specs.{declared.value.Name.Name, declared.command.Command.Command, declared.command.Reply.Reply, World.World, World.state_of, World.node_of, Known.IsWorld, Step.step, Known.CanApply, Step.shared_name, Reach.further, History.opened_by, History.finalised_by, History.name_in}
+use Rattle.nmgc_world_spec.specs.{declared.value.Name.Name, declared.command.Command.Command, declared.command.Reply.Reply, World.World, World.state_of, World.node_of, World.step, World.shared_name, Known.IsWorld, Known.CanApply, Reach.further, Reach.opened_by, Reach.finalised_by, Reach.name_in}
 use Rattle.nmgc_world_spec.specs.declared.value.Value.TheVariants as value
 use Rattle.nmgc_lists.specs.laws.Items.{contains_one, nothing_in, contains_flat}
 use Rattle.nmgc_world_laws.specs.{Holds.Names, laws.WorldSteps.step_keeps_world}

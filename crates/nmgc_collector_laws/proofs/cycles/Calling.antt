@@ -33,8 +33,7 @@ round_is_marking law agree ending layout c s t old new before after ends weaks o
     let by_blocks : IsTied d s.allocation new.segments (places_then o f.born) new.marker core =
     round_ends law agree ending layout s before after old.segments new.segments ends weaks c o v mutators core new.marker h f sound
     (marks.layout ∙ h.holds.layout_is) (marks.stands before s.allocation h.holds.stands) interval goes g.all.0 g.opening same places snapshot
-    (marks.scanned.epoch ∙ was.tied.epoch) of_view in
-    (
+    (marks.scanned.epoch ∙ was.tied.epoch) of_view in (
       round_keeps_marking c s t old new o after v f mutators core (subst (λ (l : List Place). IsMarking c s old l) (sym places) was) goes world
           (subst (λ (a : AllocState). IsTied d a new.segments (places_then o f.born) new.marker core) (sym allocation) by_blocks)
           marks.room (marks.layout ∙ h.holds.layout_is ∙ sym same) left entries,

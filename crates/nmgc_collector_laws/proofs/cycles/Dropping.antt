@@ -1,6 +1,6 @@
 -- The places of freed names go, and the rest represents the swept state.
 use Rattle.nmgc_collector_laws.proofs.Vocabulary.{ℕ, ◌≡◌, ◌≢◌, ◌⊎◌, ◌+◌, ◌<◌, ◌≤◌, List, [], ◌∷◌, refl, sym, ap, subst, ◌∙◌, arith, inl, inr, Option, Some, None, cond, set, Contains, IsSome, sum_by, sum_by-set, cases_eq, Name, World, node_of, shared_name, replayed, contains_head, contains_tail, contains_cases, nothing_in, absent, some_of, nursery_place, block_size, Layout, Stands, is, Segments, block_place, IsSegments, AllocState, Cells, Sweeps, SweepsEach, HoldsKept, LiesIn, HasBlock, cells, name_in, count_in, no_cells, StandsFor, none_some, swept_back, swept_other, DropsPlaces, Place, NoNode, ListsWeaks, IsTracked, places_dropped, roots_dropped, tracked_wide, free_tracked, is_block, MutatorEnd, IsKeptIn, FitBlocks, HeapStandsFor, IsBornPlace, snapshots, IsBlockPlace, IsPlaceAtStop, last_state, IsInCycle, IsSoundState, Progress, sweeping, SweepsBeside, free, block_used, states_are_sound, rounds_are_sound, sweeps_keep, tracked_before, tracked_itself, FreesUntracked, RoundFreesUntracked, StopFreesUntracked, FreeGrows, DropsFreed, SweptHoldsAfterRound, SweptHoldsAtStop, DropKeepsRound}
-use Rattle.nmgc_run_spec.specs.State.{State}
+use Rattle.nmgc_run_spec.specs.Run.{State}
 use Rattle.nmgc_segment.specs.declared.state.State.TheVariants as stands
 
 -- a list of places without those that go; each stays or goes

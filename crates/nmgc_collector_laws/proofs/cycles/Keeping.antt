@@ -1,6 +1,6 @@
 -- A marking cycle, kept over a round, a promotion and an add; and its pace.
 use Rattle.nmgc_collector_laws.proofs.Vocabulary.{◌≡◌, ◌≢◌, ◌-◌, ◌*◌, ◌<◌, ◌≤◌, ℕ, true, false, List, [], ◌∷◌, map, length, refl, sym, ap, subst, ◌∙◌, arith, inl, inr, Some, Contains, slice_get, filter, Name, World, IsWorld, IsSound, nothing_in, item, not_none, nursery_place, Layout, Entry, is_pushed_in, Core, names_of, opening, AllocState, IsOne, IsIn, cycle_begun, Place, rows_in, IsFinished, places_then, now, Opening, View, Mutator, interval_of, Cycle, IsMarking, EachMutator, weak_count, ListsNumbers, AreAt, AreRemembered, IsCoreOf, IsTied, HasRoomToMark, HasListedNothing, HasNoted, epoch_of, CollectorSeen, MutatorSeen, CycleSeen, SweeperSeen, MarkerSeen, next_cycle, cycle_started, one_more, GoesOn, IsMachineAtRest, with_rows, places_after, NoneRemember, HasLeft, ShowEntries, PromotionKeepsMarking, PaceAfterRound, PaceAtStop, PaceBegins, none_at_first, each_empty}
-use Rattle.nmgc_run_spec.specs.State.{State}
+use Rattle.nmgc_run_spec.specs.Run.{State}
 use Rattle.nmgc_segment.specs.declared.state.State.TheVariants as stands
 use Rattle.nmgc_collector_laws.proofs.{cycles.Beginning.IsBegun, cycles.Beginning.begun, cycles.Pushing.all_empty, cycles.Snapshots.IsReachedBy, cycles.Snapshots.reached_core, cycles.Staying.remembered_stays, cycles.Staying.tie_is_kept, cycles.Taking.HasTaken}
 

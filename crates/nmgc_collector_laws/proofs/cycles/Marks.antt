@@ -68,19 +68,19 @@ module _ (S : World) (P : Name → Type 0) where
   pub marks_name : (s : State) (name : Name) → s.snapshot ≡ S → IfThere name → HaveMarked s → HaveMarked (mark_name s name)
   marks_name s name same may h = mark_cases HaveMarked s name
       (λ new.
-          let both = and_parts (is_some (node_of s.snapshot name)) (not (is_listed name s.marked)) new in
-          let fresh : Contains s.marked name → ⊥ = not_listed name s.marked (not-true (is_listed name s.marked) both.1) in
-          record {
-            shared = Contains-append_left s.marked (name ∷ []) shared_name h.shared;
-            each = λ n c. elim (Contains-append_cases s.marked (name ∷ []) n c) [
-              | inl old ↦ h.each n old
-              | inr last ↦ subst P (one_is name n last) (may (rw same at both.0))
-            ];
-            queued = λ entry c is. elim (Contains-append_cases s.queue (entry_of name ∷ []) entry c) [
-              | inl old ↦ h.queued entry old is
-              | inr last ↦ fresh (subst (λ (x : Name). Contains s.marked x) (sym (ap (λ (x : Entry). x.name) (one_is (entry_of name) entry last) ∙ is)) h.shared)
-            ];
-          })
+      let both = and_parts (is_some (node_of s.snapshot name)) (not (is_listed name s.marked)) new in
+      let fresh : Contains s.marked name → ⊥ = not_listed name s.marked (not-true (is_listed name s.marked) both.1) in
+      record {
+        shared = Contains-append_left s.marked (name ∷ []) shared_name h.shared;
+        each = λ n c. elim (Contains-append_cases s.marked (name ∷ []) n c) [
+          | inl old ↦ h.each n old
+          | inr last ↦ subst P (one_is name n last) (may (rw same at both.0))
+        ];
+        queued = λ entry c is. elim (Contains-append_cases s.queue (entry_of name ∷ []) entry c) [
+          | inl old ↦ h.queued entry old is
+          | inr last ↦ fresh (subst (λ (x : Name). Contains s.marked x) (sym (ap (λ (x : Entry). x.name) (one_is (entry_of name) entry last) ∙ is)) h.shared)
+        ];
+      })
       (λ old. h)
 
   marks_values : (s : State) (values : List Value) → s.snapshot ≡ S → All (Names IfThere) values → HaveMarked s → HaveMarked (mark_values s values)

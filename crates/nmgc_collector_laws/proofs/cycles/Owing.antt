@@ -4,7 +4,7 @@ use Rattle.nmgc_round.specs.Objects.{IsIn}
 use Rattle.nmgc_collector_laws.proofs.{cycles.Going.Leaves, cycles.Going.round_runs, cycles.Going.leaves_round, cycles.Pushing.AllPushed, cycles.Pushing.push_all, cycles.Remembering.all_found, cycles.Remembering.pushed_low, cycles.Seats.parts_gathered}
 use Rattle.nmgc_snapshot_laws.specs.laws.MarkedOnce.{marked_runs}
 use Rattle.nmgc_collector_laws.proofs.{cycles.Found.round_finds, cycles.Handed.owed_marked}
-use Rattle.nmgc_run_spec.specs.Closing.{HoldsOnce, IsMet}
+use Rattle.nmgc_run_spec.specs.Run.{HoldsOnce, IsMet}
 
 pub slices_owed : SlicesAreOwed
 slices_owed o before round old mutators seats done scans opens h nothing k p n there new =

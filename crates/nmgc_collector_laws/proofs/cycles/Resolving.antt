@@ -1,6 +1,6 @@
 -- A closing by its calls: the machine at rest scans on and closes the cycle. Words, roots and list fit the closed world.
 use Rattle.nmgc_collector_laws.proofs.Vocabulary.{ℕ, ◌≡◌, ◌+◌, List, [], map, refl, sym, ap, subst, ◌∙◌, arith, inr, slice_index, IsSome, All-nil, Name, World, IsWorld, node_of, closed, is_some_of, FinQueue, word_total, Layout, HEADER_WORDS, Header, Entry, Core, Cells, LiesIn, cells, StandsFor, Shows, nth, Segments, block_place, Place, Represents, NoNode, IsEarlier, RepresentsRoots, ListsWeaks, size_of, closing_keeps_earlier, world_is_earlier, MutatorEnd, marks_of, earlier, now, CanOpen, Opening, Mutator, FitBlocks, HoldsAtStop, registers_of, serials_of, AreAt, IsCoreOf, IsUnread, epoch_of, CollectorSeen, ends_of, MarkerSeen, Cycle, AreOfBlocks, HasFinished, IsTiedByPlaces, Death, OldWeak, CycleMayResolve, CycleCloses, HasClosed, QueuesClose, CanResolve, places_of, FinishMayResolve, ResolveCloses, ClosedHolds, IsStopOf, IsClosingOf, FinalisersInHand, stop_opening, finished_on, closed_state, IsAtRestMarking, IsMachineAtRest}
-use Rattle.nmgc_run_spec.specs.{Terms.queues_of, State.State}
+use Rattle.nmgc_run_spec.specs.{Terms.queues_of, Run.State}
 use Rattle.nmgc_collector_laws.proofs.{cycles.Closing.machine_scans, cycles.Opens.rest_opens, cycles.Preparing.no_snapshot, cycles.RoundHeap.marked_holds, cycles.RoundHeap.not_free, cycles.Tying.MarksLaw, cycles.Tying.core_snapshot, cycles.Tying.heap_of_blocks}
 
 -- the machine once the marker has finished

@@ -1,6 +1,6 @@
 -- The heap of a stop after a round, in the terms of a run; and after a promotion.
 use Rattle.nmgc_collector_laws.proofs.Vocabulary.{◌≡◌, ◌≢◌, ◌⊎◌, ◌+◌, ℕ, List, ◌∷◌, map, refl, sym, ap, subst, ◌∙◌, arith, inl, inr, Some, None, slice_index, IsSome, Contains, Contains-append_left, Contains-append_right, Name, World, node_of, contains_tail, is_some_of, contains_map, absent, some_of, word_total, Layout, HEADER_WORDS, Header, AllocState, Cells, LiesIn, cells, no_cells, name_in, StandsFor, Shows, nth, Segments, block_place, size_of, Place, Represents, NoNode, IsEarlier, ListsWeaks, remembered, world_is_earlier, MutatorEnd, Opening, View, Object, place_of, earlier, now, IsKeptThen, places_then, place_cases, still_earlier, FitBlocks, HeapStandsFor, HoldsAfterRound, IsBornPlace, snapshots, IsPlaceAtStop, IsRoundFrom, RoundHolds, MarkedHolds}
-use Rattle.nmgc_run_spec.specs.State.{State}
+use Rattle.nmgc_run_spec.specs.Run.{State}
 use Rattle.nmgc_segment.specs.declared.state.State.TheVariants as stands
 
 -- a segment with a name isn't free

@@ -2,15 +2,15 @@
 use Rattle.std.proofs.{Common.◌≡◌, Common.◌+◌, Common.◌<◌, Common.ℕ, Common.List, Common.length, Common.map, Common.refl, Common.sym, Common.ap, Common.subst, Common.◌∙◌, Common.arith, Common.inl, Common.inr, Common.Some, lemmas.List.length-map, lemmas.Option.slice_get_within, lemmas.Option.get_or_from_slice_get}
 use Rattle.std.specs.Prelude.{slice_get, Contains}
 use Rattle.nmgc_world_spec.specs.World.{World}
-use Rattle.nmgc_object.specs.{Places.nursery_place, declared.layout.Layout.Layout, declared.layout.Nursery.Nursery, declared.layout.TheConstants.SHARED_PLACE}
+use Rattle.nmgc_object.specs.{Words.nursery_place, declared.layout.Layout.Layout, declared.layout.Nursery.Nursery, declared.layout.TheConstants.SHARED_PLACE}
 use Rattle.nmgc_alloc.specs.Segments.{IsSegments}
-use Rattle.nmgc_heap_spec.specs.{Places.Place, Represents.Represents, Represents.NoNode, Roots.RepresentsRoots}
+use Rattle.nmgc_heap_spec.specs.{Objects.Place, Represents.Represents, Represents.NoNode, Roots.RepresentsRoots}
 use Rattle.nmgc_lists.specs.laws.Items.{item_map}
 use Rattle.nmgc_stop_spec.specs.{Nurseries.nursery_at, Occupied.AreBlocks, Stopped.young_base, laws.Blocks.is_block, Cycle.Cycle}
 use Rattle.nmgc_mutator.specs.{declared.mutator.Mutator.Mutator, Ready.IsUnused, laws.Common.none_known}
 use Rattle.nmgc_collector_laws.specs.{Rest.IsResting, Collector.AreAtRest, Collector.IsMarking, Seen.CollectorSeen, Seen.MutatorSeen, Seen.end_of, Seen.ends_of, Seen.nurseries_of, Blocks.AreOfBlocks, Blocks.TiesAgree, Heaps.seen_mutator, Heaps.AreShown, Heaps.HeapRests, RestMarking.IsAtRestMarking, RestMarking.opening_beside, laws.Roots.same_registers, laws.Roots.same_queues, laws.Roots.same_serials}
 use Rattle.nmgc_collector_laws.specs.Worked as turn
-use Rattle.nmgc_run_spec.specs.{Heap.HoldsAtStop, Terms.registers_of, Terms.queues_of, Terms.serials_of, Heap.snapshots, State.Plan, State.State, State.Progress, State.marking, State.layout_of}
+use Rattle.nmgc_run_spec.specs.{Heap.HoldsAtStop, Terms.registers_of, Terms.queues_of, Terms.serials_of, Heap.snapshots, Run.Plan, Run.State, Run.Progress, Run.marking, Run.layout_of}
 use Rattle.nmgc_run_laws.specs.{Sound.IsSoundState, Sound.IsInCycle, laws.Places.blocks_at_stop, laws.Places.block_used}
 use Rattle.nmgc_round.specs.View.{Opening}
 use Rattle.nmgc_collector_laws.proofs.{cycles.Keeping.stop_is_at_rest, cycles.Opens.rest_opens, cycles.Tying.MarksLaw, cycles.Tying.core_snapshot, cycles.Tying.heap_of_blocks}

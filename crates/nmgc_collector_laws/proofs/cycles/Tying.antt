@@ -1,6 +1,6 @@
 -- A marker's tie by places and by blocks, at a stop.
 use Rattle.nmgc_collector_laws.proofs.Vocabulary.{◌≡◌, ℕ, List, [], ◌∷◌, map, true, sym, ap, subst, ◌∙◌, inl, inr, Contains, IsSome, Name, shared_name, World, node_of, IsSound, Layout, Facts, Core, snapshot_theorem, Contains-append_left, Segments, block_place, IsSegments, StandsFor, cells, Place, shared_place, MutatorEnd, Mutator, rows_in, IsFinished, places_then, marks_of, place_of, now, collecting, Opening, Seen, whole, interval_of, Cycle, HoldsAtStop, AreAt, IsCoreOf, IsTied, epoch_of, MarkerSeen, AreOfBlocks, TiesAgree, AreApart, IsTiedByPlaces, marks_seen, with_rows, GoesOn, CoreHasSnapshot, RoundBeginsTied, places_apart, core_facts}
-use Rattle.nmgc_run_spec.specs.State.{State}
+use Rattle.nmgc_run_spec.specs.Run.{State}
 use Rattle.nmgc_collector_laws.proofs.cycles.RoundHeap.{marked_holds}
 
 -- places of names, among more places

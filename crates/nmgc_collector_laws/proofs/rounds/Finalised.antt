@@ -1,6 +1,6 @@
 -- A command that finalised a weak pointer in a segment reported its address.
 use Rattle.nmgc_collector_laws.proofs.Vocabulary.{◌≡◌, ◌+◌, ◌*◌, ◌/◌, ◌%◌, ◌<◌, ◌≤◌, ◌&&◌, ℕ, Bool, true, cond, eqb, leb, List, [], ◌∷◌, ◌++◌, sym, ap, subst, ◌∙◌, arith, Option, Some, None, inl, inr, refl, false, leb-true, Contains, and_parts, Contains-append_left, Contains-append_right, Contains-append_cases, Name, Value, Node, Parts, Operand, Command, Finalise, Reply, World, state_of, given, shared_name, value_for, change_object, change_node, step, Row, replayed, IsAlive, SHARED_PLACE, FIRST_PLACE, Layout, nursery_place, contains_one, nothing_in, one_is, Place, Means, Answer, plain, word, Hand, word_of, leaves, OwnRow, Answers, is_old, pushed_at, finalised_by, all_finalised, old_word}
-use Rattle.nmgc_world_spec.specs.History.{IsLegal}
+use Rattle.nmgc_world_spec.specs.Reach.{IsLegal}
 use Rattle.nmgc_world_spec.specs.declared.value.Value.TheVariants as value
 use Rattle.nmgc_world_spec.specs.declared.change.Change.TheVariants as change
 use Rattle.nmgc_world_spec.specs.declared.command.Reply.TheVariants as reply

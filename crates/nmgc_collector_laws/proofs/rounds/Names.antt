@@ -75,7 +75,8 @@ born_names : (w : World) (m register : ℕ) (made : Node) (c : Command) → m < 
     Names w m c (born w m register made).0 (born w m register made).1
 born_names w m register made c lt one =
     let q : MutatorState = with_new (state_of w m) m register made in record {
-      own = cc (state_same w m q lt, length-append (state_of w m).nodes (made ∷ []), one);
+      own = ap (λ (s : MutatorState). length s.nodes) (state_same w m q lt) ∙ length-append (state_of w m).nodes (made ∷ []) ∙
+          ap (λ (k : ℕ). serial_of w m + k) (sym one);
       others = λ k other. ap (λ (s : MutatorState). length s.nodes) (state_other w m q lt k other);
       gives = λ is. refl;
     }

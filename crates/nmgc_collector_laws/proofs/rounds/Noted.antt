@@ -1,6 +1,6 @@
 -- A command that put a reference to a new object into an older object is recorded.
 use Rattle.nmgc_collector_laws.proofs.Vocabulary.{◌≡◌, ◌+◌, ◌*◌, ◌/◌, ◌%◌, ◌<◌, ◌≤◌, ◌&&◌, ℕ, Bool, true, cond, eqb, leb, List, [], ◌∷◌, ◌++◌, sym, ap, subst, ◌∙◌, arith, inl, inr, eq-eqb, le-leb, Contains, Contains-append_left, Contains-append_right, and_from, World, state_of, shared_name, value_for, step, Row, replayed, HEADER_WORDS, SHARED_PLACE, FIRST_PLACE, Layout, nursery_place, contains_one, Place, Means, plain, Hand, word_of, leaves, OwnRow, is_old, is_young, recorded_at, noted_by, all_recorded, depth_of, slots_at, old_word, plain_answer}
-use Rattle.nmgc_world_spec.specs.History.{IsLegal}
+use Rattle.nmgc_world_spec.specs.Reach.{IsLegal}
 use Rattle.nmgc_world_spec.specs.declared.value.Value.TheVariants as value
 use Rattle.nmgc_collector_laws.proofs.{rounds.RowRegisters.operand_means, rounds.Along.IsOwn, rounds.Along.Along, rounds.Puts.KnowsDepth, rounds.Puts.Puts}
 

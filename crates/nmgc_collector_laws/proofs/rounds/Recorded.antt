@@ -1,6 +1,6 @@
 -- Recorded addresses are existing fields of objects below the nurseries that the round reached.
 use Rattle.nmgc_collector_laws.proofs.Vocabulary.{◌≡◌, ◌+◌, ◌*◌, ◌/◌, ◌%◌, ◌<◌, ◌&&◌, ℕ, Bool, true, false, cond, eqb, leb, List, [], ◌∷◌, length, set, refl, sym, ap, subst, ◌∙◌, arith, Option, Some, None, inl, inr, eqb-true, leb-true, IsSome, Contains, slice_get, slice_get_past, get_or_past, Contains-append_left, Contains-append_cases, Contains-get_or, and_parts, cases_lt, eqb_tells, Name, Value, Node, Con, Var, Arr, Thunk, Weak, Stack, Kind, Change, Operand, Register, Shared, Command, Set, Cas, Update, Push, Reply, Fine, Yes, Updated, NoField, NoPointer, World, IsWorld, state_of, node_of, exchanged_at, field_set, field_exchanged, thunk_updated, changed, CanApply, shared_name, value_for, next_name, change_node, change_object, step, Row, replayed, start, step_grows, not_shared, HEADER_WORDS, SHARED_PLACE, FIRST_PLACE, Layout, nursery_place, IsWide, kind_of, part_count, SameShape, CanReplay, nothing_in, one_is, next_is_new, absent, step_adds_one, rows_keep_shapes, step_keeps_world, Place, Means, root_wide, Answer, plain, word, Hand, word_of, leaves, OwnRow, Answers, is_old, is_young, recorded_at, noted_by, all_recorded, depth_of, slots_at, le-ltb}
-use Rattle.nmgc_world_spec.specs.History.{IsLegal}
+use Rattle.nmgc_world_spec.specs.Reach.{IsLegal}
 use Rattle.nmgc_world_spec.specs.declared.value.Value.TheVariants as value
 use Rattle.nmgc_world_spec.specs.declared.change.Change.TheVariants as change
 use Rattle.nmgc_world_spec.specs.declared.node.Kind.TheVariants as kind

@@ -1,6 +1,6 @@
 -- The new weak pointers of a round, and the addresses that their makers noted.
 use Rattle.nmgc_collector_laws.proofs.Vocabulary.{◌≡◌, ◌≢◌, ℕ, ◌*◌, ◌/◌, ◌<◌, List, [], ◌∷◌, ◌++◌, length, refl, sym, ap, subst, ◌∙◌, arith, Option, Some, None, inl, inr, Contains, none-some, same_Some, Contains-append_left, Contains-append_right, Contains-append_cases, SHARED_MAKER, Name, Node, Con, Var, Arr, Thunk, Weak, Stack, Parts, Operand, Command, Reply, World, IsWorld, state_of, node_of, given, changed, next_name, with_node, with_new, born, step, Row, replayed, not_shared, kind_of, made_by, CanReplay, absent, some_of, nothing_in, one_is, contains_one, last_there, next_is_new, node_cases, node_born, node_same, rows_keep_shapes, step_keeps_world, Stepped, Any, stepped, hand_nodes, still_there, Place, Means, Answer, plain, word, OwnRow, Hand, leaves, Answers, weaks_by, all_weaks}
-use Rattle.nmgc_world_spec.specs.History.{IsLegal}
+use Rattle.nmgc_world_spec.specs.Reach.{IsLegal}
 use Rattle.nmgc_world_laws.specs.laws.Steps.{Object}
 use Rattle.nmgc_world_spec.specs.declared.value.Value.TheVariants as value
 use Rattle.nmgc_world_spec.specs.declared.node.Kind.TheVariants as kind

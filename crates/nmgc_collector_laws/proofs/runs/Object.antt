@@ -1,6 +1,6 @@
 -- A script that makes one object: one round, and a stop that places the object.
 use Rattle.nmgc_collector_laws.proofs.Vocabulary.{ℕ, zero, suc, ◌≡◌, List, [], ◌∷◌, set, replicate, arith, refl, ap, inl, inr, Option, Some, None, Bool, true, false, lit≤, lit<, IsSome, slice_get, ◌==◌, if◌then◌else◌, false_from_ne_true, SHARED_MAKER, Node, node_of, Row, replayed, IsOrderOf, begins, AllocState, Cells, all_empty, with_cells, NoneIs, IsOf, IsFull, layout_of, answered, own_rows, slices, IsYoung, IsPromoted, PlacesObject, IsFullDue, IsCycleDue, Run, IsRun, small_plan, small_heap, quiet_stop, object_program, object_replies, object_name, all_free, not_there, eqb-true}
-use Rattle.nmgc_run_spec.specs.State.{State, start}
+use Rattle.nmgc_run_spec.specs.Run.{State, start}
 use Rattle.nmgc_segment.specs.declared.state.State.TheVariants as stands
 use Rattle.nmgc_collector_laws.proofs.runs.Listed.{lists_none, lists_one}
 

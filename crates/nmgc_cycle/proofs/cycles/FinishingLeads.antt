@@ -1,7 +1,7 @@
 -- A finished marker with resolved weak pointers closes its cycle in bounds, and the collector represents the sweeping state.
 use Rattle.nmgc_cycle.proofs.Vocabulary.{ℕ, ◌≡◌, ◌+◌, ◌-◌, ◌^◌, ◌<◌, ◌≤◌, List, [], ◌∷◌, length, refl, sym, ap, subst, ◌∙◌, arith, IsSome, length-map, StandsFor, Segments, IsSegments, carried_stands, HeapRests, MarkedHolds, FinishMayResolve, ResolveCloses, ClosedHolds, ClosedCycleSweeps, IsStopOf, IsClosingOf, HaveJoinedInRun, ShowsDeaths, closed_state, finished_on, stop_opening, MarkedWait, all_carried, AreEmpty, Name, closed, World, node_of, is_some_of, item_map, nothing_in, Place, IsEarlier, size_of, closing_keeps_earlier, closing_tracks, world_is_earlier, map_item, IsFor, Mutator, IsWhole, Layout, Nursery, HEADER_WORDS, Header, closed_world, closed_names, closed_mutators, closed_serials, Opening, IsKeptObject, Cycle, ClosesNow, IsForcedSoon, IsSoon, AreNurseries, EachMutator, IsEmptied, IsMarking, IsPacedAtStop, HoldsAtStop, Counts, AreSettled, IsSweeping, epoch_of, IsEpoch, CollectorSeen, ends_of, nurseries_of, IsSoundState, State, Progress, idle, marking, sweeping, phase_of, plan_of, layout_of, tracked_fewer, Script, ClosingBeginsWork, IsClosedNow, LeftStays, AreLeft, HasNotes, turned, IsAtWork, Death, IsClosedBy, AreDeaths, HasResolved, places_of, Weaks, HaveEntries, Collector, Marking, Doing, Sweeping, HasClosed, IsClosed, ClosesNowBy, FinishingNowLeads, IsWellFormed, queues_in, died, phase_in, seen, seen_mutator, words_in, StandsAt, IsPacedWithin, FinishingLeads, IsLined, epoch_sound}
 use Rattle.nmgc_mark.specs.Stopped.{HasFinished}
-use Rattle.nmgc_run_spec.specs.Closing.{Closes}
+use Rattle.nmgc_run_spec.specs.Run.{Closes}
 use Rattle.nmgc_run_laws.specs.Sound.{left_of}
 use Rattle.nmgc_journal.specs.declared.report.Phase.TheVariants as phase
 use Rattle.nmgc_cycle.specs.declared.progress.Progress.TheVariants as doing

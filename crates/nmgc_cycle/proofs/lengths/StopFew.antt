@@ -1,18 +1,18 @@
 -- The steps of a stop leave no more rounds to follow.
 use Rattle.std.proofs.{Common.ℕ, Common.suc, Common.◌≡◌, Common.◌+◌, Common.◌<◌, Common.◌≤◌, Common.List, Common.[], Common.◌∷◌, Common.◌++◌, Common.length, Common.refl, Common.sym, Common.ap, Common.subst, Common.◌∙◌, Common.arith, Common.Bool, Common.true, Common.false, Common.inl, Common.inr, Common.length-append, lemmas.Bool.cases_lt, lemmas.List.get_or_past}
 use Rattle.std.specs.Prelude.{if◌then◌else◌, Contains, Option}
-use Rattle.nmgc_alloc.specs.{AllocState.AllocState, Stands.StandsFor, Numbered.Segments, Segments.HasNone, Segments.IsWaiting}
+use Rattle.nmgc_alloc.specs.{AllocState.AllocState, AllocState.StandsFor, AllocState.Segments, Segments.HasNone, Segments.IsWaiting}
 use Rattle.nmgc_alloc.specs.declared.search.Category.TheVariants as sought
 use Rattle.nmgc_segment.specs.Segment.{Segment, free_segment}
 use Rattle.nmgc_segment.specs.declared.state.State.TheVariants as stands
-use Rattle.nmgc_stop_spec.specs.Promoted.{IsPromoted, PlacesEach}
-use Rattle.nmgc_world_spec.specs.{World.World, World.node_of, declared.value.Name.Name, Listing.Ascends}
+use Rattle.nmgc_stop_spec.specs.Cycle.{IsPromoted, PlacesEach}
+use Rattle.nmgc_world_spec.specs.{World.World, World.node_of, declared.value.Name.Name, Reach.Ascends}
 use Rattle.nmgc_mark.specs.{Marker.StandAsBefore, Beginning.most_blocks, declared.marker.Work.Work}
 use Rattle.nmgc_object.specs.declared.layout.Layout.{Layout}
 use Rattle.nmgc_journal.specs.{declared.report.End.End, declared.report.RoundRows.RoundRows, declared.report.StopRow.StopRow}
 use Rattle.nmgc_script.specs.declared.script.Script.{Script}
 use Rattle.nmgc_sweep.specs.Sweeper.{Sweeper, AreLeft}
-use Rattle.nmgc_run_spec.specs.{Stop.Promotes, State.State}
+use Rattle.nmgc_run_spec.specs.Run.{Promotes, State}
 use Rattle.nmgc_cycle.specs.{declared.collector.Collector.Collector, declared.progress.Marking.Marking, declared.progress.Progress.Progress as Doing, declared.progress.Sweeping.Sweeping, Shown.words_in, Shown.work_in, Stopping.HasPromoted, Bound.commands_left, Bound.heap_of, Bound.phase_left, Bound.MayFollow, Bound.AreFew, Bound.AreFewAtStop, Bound.HasMore, Bound.NoneIsDue, Bound.commands, Bound.one_cycle, Bound.no_cycle, Cycles.HasTaken, Cycles.AddsTo, Cycles.HasClosed, Cycles.Closes, Cycles.Ends, Cycles.IsDue, Cycles.Begins, Cycles.HasStarted, Cycles.all_prepared, Cycles.remembered_by, Cycles.HasStood}
 use Rattle.nmgc_cycle.specs.declared.progress.Progress.TheVariants as doing
 use Rattle.nmgc_cycle.proofs.lengths.Few.{leaves_few, same_few}

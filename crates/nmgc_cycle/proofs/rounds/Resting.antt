@@ -2,15 +2,15 @@
 use Rattle.std.proofs.{Common.ℕ, Common.◌≡◌, Common.◌+◌, Common.◌<◌, Common.List, Common.[], Common.length, Common.map, Common.refl, Common.sym, Common.ap, Common.subst, Common.◌∙◌, Common.inl, Common.inr, Common.arith, Common.Some, lemmas.Option.slice_get_within, lemmas.Option.get_or_from_slice_get, lemmas.Option.slice_get-map}
 use Rattle.std.specs.Prelude.{Contains, slice_get, option_map}
 use Rattle.nmgc_world_spec.specs.World.{World}
-use Rattle.nmgc_object.specs.{Places.nursery_place, declared.layout.Layout.Layout, declared.layout.Nursery.Nursery, declared.layout.TheConstants.SHARED_PLACE, Size.block_size}
-use Rattle.nmgc_alloc.specs.{AllocState.cells, Numbered.block_place}
-use Rattle.nmgc_heap_spec.specs.{Places.Place, Represents.Represents, Represents.NoNode, Roots.RepresentsRoots}
+use Rattle.nmgc_object.specs.{Words.nursery_place, Words.block_size, declared.layout.Layout.Layout, declared.layout.Nursery.Nursery, declared.layout.TheConstants.SHARED_PLACE}
+use Rattle.nmgc_alloc.specs.AllocState.{cells, block_place}
+use Rattle.nmgc_heap_spec.specs.{Objects.Place, Represents.Represents, Represents.NoNode, Roots.RepresentsRoots}
 use Rattle.nmgc_stop_spec.specs.{Nurseries.nursery_at, Occupied.AreBlocks, Stopped.young_base, laws.Blocks.is_block}
 use Rattle.nmgc_mutator.specs.{declared.mutator.Mutator.Mutator, Ready.IsUnused, laws.Common.none_known as none_noted}
 use Rattle.nmgc_collector_laws.specs.{Rest.IsAtRest, Rest.IsResting, Seen.MutatorSeen, Seen.end_of, Seen.ends_of, Seen.nurseries_of, laws.Roots.same_registers, laws.Roots.same_queues, laws.Roots.same_serials}
 use Rattle.nmgc_collector_laws.specs.Worked as turn
-use Rattle.nmgc_script.specs.{declared.script.Script.Script, Limits.IsInLimits}
-use Rattle.nmgc_run_spec.specs.{Heap.snapshots, Terms.registers_of, Terms.queues_of, Terms.serials_of, Run.Run, Run.last_state, State.plan_of, State.layout_of}
+use Rattle.nmgc_script.specs.{declared.script.Script.Script, Spelling.IsInLimits}
+use Rattle.nmgc_run_spec.specs.{Heap.snapshots, Terms.registers_of, Terms.queues_of, Terms.serials_of, Run.Run, Run.last_state, Run.plan_of, Run.layout_of}
 use Rattle.nmgc_run_laws.specs.laws.Places.{blocks_at_stop, block_used}
 use Rattle.nmgc_cycle.specs.{declared.collector.Collector.Collector, Keeps.IsAfterStop, Shown.seen, Shown.words_in, Shown.seen_mutator}
 use Rattle.nmgc_cycle.proofs.{lists.Plans.sound_state, lists.RootLists.seen_at}

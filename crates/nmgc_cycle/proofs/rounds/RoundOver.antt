@@ -2,17 +2,17 @@
 use Rattle.std.proofs.{Common.ℕ, Common.suc, Common.◌≡◌, Common.◌+◌, Common.◌<◌, Common.◌≤◌, Common.◌⊎◌, Common.List, Common.[], Common.◌∷◌, Common.length, Common.map, Common.refl, Common.sym, Common.ap, Common.subst, Common.◌∙◌, Common.inl, Common.inr, Common.arith, Common.Some, lemmas.Bool.cases_lt, lemmas.List.get_or_past, lemmas.List.length-map, lemmas.List.Elements.All-nil, lemmas.List.Elements.All-cons, lemmas.Option.slice_get-map, lemmas.Option.get_or_from_slice_get}
 use Rattle.std.specs.Prelude.{All, slice_get, option_map}
 use Rattle.nmgc_world_spec.specs.World.{World}
-use Rattle.nmgc_object.specs.{Places.nursery_place, Places.reserve_count, declared.layout.Layout.Layout, declared.layout.Nursery.Nursery}
-use Rattle.nmgc_alloc.specs.{Stands.StandsFor, Numbered.Segments}
+use Rattle.nmgc_object.specs.{Words.nursery_place, Words.reserve_count, declared.layout.Layout.Layout, declared.layout.Nursery.Nursery}
+use Rattle.nmgc_alloc.specs.AllocState.{StandsFor, Segments}
 use Rattle.nmgc_alloc.specs.Reserve as reserve
-use Rattle.nmgc_heap_spec.specs.{Places.Place, Roots.RepresentsRoots}
+use Rattle.nmgc_heap_spec.specs.{Objects.Place, Roots.RepresentsRoots}
 use Rattle.nmgc_stop_spec.specs.{Nurseries.AreUsed, Nurseries.AreEmpty, Nurseries.LieInOrder, Nurseries.nursery_at, Occupied.AreBlocks, Remembers.Remembers, Stopped.IsStopped, Stopped.young_base}
 use Rattle.nmgc_mutator.specs.{declared.mutator.Mutator.Mutator, Ready.words_by}
 use Rattle.nmgc_round.specs.{Naming.AllReply, Objects.earlier, Starting.CanOpen, View.FixedWord, View.Opening, View.DoneRow}
 use Rattle.nmgc_collector_laws.specs.{Turn.RoundIsStopped, Turn.RoundListsFinalised, Turn.stop_after, Worked.Done, Worked.ListsFinalised, Heaps.IsRoundFrom, Collector.AreNurseries, Seen.end_of, Seen.ends_of, Seen.nurseries_of, Seen.recorded_in, Seen.young_weaks_in, Seen.finalised_in, laws.Roots.same_registers, laws.Roots.same_queues, laws.Roots.same_serials}
 use Rattle.nmgc_collector_laws.specs.Worked as turn
 use Rattle.nmgc_script.specs.declared.script.Script.{Script}
-use Rattle.nmgc_run_spec.specs.{Terms.HasAllRegisters, Heap.snapshots, Terms.registers_of, Terms.queues_of, Terms.serials_of, Slice.slice_of, AfterRound.program_of, State.layout_of}
+use Rattle.nmgc_run_spec.specs.{Terms.HasAllRegisters, Heap.snapshots, Terms.registers_of, Terms.queues_of, Terms.serials_of, Run.slice_of, Run.layout_of, AfterRound.program_of}
 use Rattle.nmgc_cycle.specs.{declared.collector.Collector.Collector, Roots.HasRegisters, Shown.seen, Shown.seen_mutator, Shown.words_in}
 use Rattle.nmgc_cycle.proofs.{stops.EnoughFree.reserve_free, lists.Phases.noted_snapshots, lists.Plans.sound_state, rounds.Positions.left_is, rounds.Resting.blocks_there, lists.RootLists.same_nurseries, lists.RootLists.same_recorded, lists.RootLists.same_weaks, lists.RootLists.same_finalised, rounds.Rounded.one_did, rounds.Slicing.commands_of, rounds.Over.IsOver, rounds.Over.plan, rounds.Over.s, rounds.Over.w, rounds.Over.t, rounds.Over.rows, rounds.Over.places, rounds.Over.shown, rounds.Over.view, rounds.Over.worked, rounds.Over.can, rounds.Over.mutators_count, rounds.Over.one}
 use Rattle.nmgc_lists.specs.laws.Items.{item}

@@ -3,7 +3,7 @@ ghost use Rattle.std.specs.Prelude.{◌≡◌, ◌≤◌, [], ◌∷◌, IfOk, I
 ghost use Rattle.nmgc_object.specs.Layouts.{IsLayout};
 ghost use Rattle.nmgc_mutator.specs.declared.mutator.Mutator.{Mutator as MutatorSeen};
 ghost use Rattle.nmgc_alloc.specs.Segments.{all_free};
-ghost use Rattle.nmgc_heap_spec.specs.{Places.HasZeros, Samples.small_layout};
+ghost use Rattle.nmgc_heap_spec.specs.{Objects.HasZeros, Samples.small_layout};
 ghost use Rattle.nmgc_stop_spec.specs.Samples.{HoldsYoung};
 ghost use Rattle.nmgc_minor.specs.Promotion.{IsFor};
 ghost use Rattle.nmgc_heap_tests.specs.Checked.{IsYoungMutator};

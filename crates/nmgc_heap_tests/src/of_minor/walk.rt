@@ -6,7 +6,7 @@
 //! Easy to get wrong: the walk takes each even word for a pointer, also headers and names. So a heap needs enough segments
 //! below its nurseries that no header of a large stack, and no high serial, points there.
 ghost use Rattle.std.specs.Prelude.{ℕ, ◌≡◌, ◌≢◌, ◌+◌, ◌*◌, ◌<◌, ◌≤◌, IsTrue, length, slice_index, Contains};
-ghost use Rattle.nmgc_object.specs.{Words.header_word, Words.name_word, Words.IsHeader as IsGoodHeader, Words.IsName, Layouts.IsLayout, Places.reserve_count, declared.words.Address.Address as Place};
+ghost use Rattle.nmgc_object.specs.{Words.header_word, Words.name_word, Words.IsHeader as IsGoodHeader, Words.IsName, Words.reserve_count, Layouts.IsLayout, declared.words.Address.Address as Place};
 ghost use Rattle.nmgc_alloc.specs.Reserve.{free_count};
 ghost use Rattle.nmgc_mutator.specs.declared.mutator.Mutator.{Mutator as MutatorSeen};
 ghost use Rattle.nmgc_heap_tests.specs.Checked.{PointsWell, PointsWellAll, IsMade, AreMade, AreParts};

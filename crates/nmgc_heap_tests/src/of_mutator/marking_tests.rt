@@ -3,7 +3,7 @@
 ghost use Rattle.nmgc_mutator.specs.declared.mutator.TheConstants.{MOST_PUSHED};
 ghost use Rattle.std.specs.Prelude.{◌≡◌, ◌*◌, ◌<◌, ◌≤◌, true, [], IfOk, IfSome, vec_capacity};
 ghost use Rattle.nmgc_heap_spec.specs.Samples.{small_layout};
-ghost use Rattle.nmgc_object.specs.Places.{word_total};
+ghost use Rattle.nmgc_object.specs.Words.{word_total};
 ghost use Rattle.nmgc_round.specs.{View.whole, Seat.IsAt, Seat.seen, Seat.word_count, Seating.alone, Seating.collecting, Ready.HasPart, Ready.scanned_by};
 ghost use Rattle.nmgc_heap_tests.specs.Sample.{snapshot_opening, IsSnapshotHeap, IsSnapshotMutator, IsBegun};
 

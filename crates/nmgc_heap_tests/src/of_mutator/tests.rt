@@ -1,6 +1,6 @@
 //! Programs on the empty heap: slices of one mutator, and two in threads. Commands' replies are in `examples/rows/runs.rows`.
 ghost use Rattle.std.specs.Prelude.{ℕ, List, ◌≡◌, ◌<◌, ◌≤◌, [], All, IfOk, IsTrue, length, min, slice_index_or, vec_capacity};
-ghost use Rattle.nmgc_world_spec.specs.Command.{Fits, HasNumbers, words_made};
+ghost use Rattle.nmgc_world_spec.specs.World.{Fits, HasNumbers, words_made};
 ghost use Rattle.nmgc_object.specs.Layouts.{IsLayout};
 ghost use Rattle.nmgc_round.specs.{Empty.IsEmptyHeap, Empty.first_opening, Starting.CanOpen, Seat.RoundSeat, Seat.IsAt, Seat.seen, Seating.alone};
 ghost use Rattle.nmgc_mutator.specs.{Ready.IsNew, Slice.HasRoom};

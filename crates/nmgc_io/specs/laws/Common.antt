@@ -1,6 +1,6 @@
 -- Lemmas that crates above also need.
 use Rattle.std.proofs.Common.{◌≤◌, ℕ, List, length, ap, arith, Option, Some, None, length-append}
-use Rattle.nmgc_io.specs.Counts.{Takes}
+use Rattle.nmgc_io.specs.Text.{Takes}
 
 -- the number of bytes taken is at most the number of known bytes
 pub taken_within : (bytes : List ℕ) (new : Option (List ℕ)) (n : ℕ) → Takes (Some bytes) new n → n ≤ length bytes

@@ -2,8 +2,8 @@
 use Rattle.std.proofs.Common.{◌<◌, ◌≤◌, ℕ, arith, inl, inr, List, refl, ◌+◌, ◌∙◌, eq-eqb, ◌≡◌, true, eqb}
 use Rattle.nmgc_world_spec.specs.World.{World}
 use Rattle.nmgc_object.specs.declared.{layout.Layout.Layout, size.TheConstants.HEADER_WORDS}
-use Rattle.nmgc_alloc.specs.Numbered.{Segments}
-use Rattle.nmgc_heap_spec.specs.{Places.Place, Places.LiesWell, Represents.Represents, Represents.NoNode, laws.Changes.lies_within}
+use Rattle.nmgc_alloc.specs.AllocState.{Segments}
+use Rattle.nmgc_heap_spec.specs.{Objects.Place, Objects.LiesWell, Represents.Represents, Represents.NoNode, laws.Changes.lies_within}
 use Rattle.nmgc_round.specs.{View.Opening, Marking.Marks, Marking.name_meant, Marking.with_name}
 use Rattle.nmgc_mark.specs.{Tie.AreApart, Tie.IsTied, Seen.MarkerSeen, Marker.HasScanned, Marker.HasRoomToMark, Marker.HasMarked}
 

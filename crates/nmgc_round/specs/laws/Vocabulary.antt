@@ -1,6 +1,6 @@
 -- Every name of std, of the crates below and of this crate's definitions that the lemmas of these laws use.
 pub use Rattle.atomic_table.proofs.Lists.{at_longer}
-pub use Rattle.nmgc_heap_spec.specs.Places.{Place}
+pub use Rattle.nmgc_heap_spec.specs.Objects.{Place}
 pub use Rattle.nmgc_lists.specs.laws.Items.{contains_cases, contains_head, contains_tail}
 pub use Rattle.nmgc_object.specs.declared.layout.Layout.{Layout}
 pub use Rattle.nmgc_round.specs.{Empty.first_opening, Empty.new_hand, Events.Happening, Events.IsLegal, Events.did, Events.replay, Events.scanned, Finishing.HasAll, Gate.next_turn, Gate.passed, Marking.Marks, Marking.after_word, Marking.folded, Marking.marks_of, Marking.name_at, Own.slots_at, Rule.Answers, Seat.IsAt, Seat.RoundSeat, Seat.seen, Seating.all_together, Seating.alone, Seating.alones, Seating.together, View.Answer, View.DoneRow, View.Hand, View.Opening, View.Part, View.Scan, View.Seen, View.Slots, View.leaves, View.plain, View.rows_leave, View.with_slots, View.word, declared.table.Round.Round}

@@ -2,13 +2,13 @@
 use Rattle.std.proofs.{Common.ℕ, Common.◌≡◌, Common.◌+◌, Common.◌<◌, Common.◌≤◌, Common.List, Common.[], Common.◌∷◌, Common.◌++◌, Common.length, Common.arith, Common.refl, Common.sym, Common.ap, Common.subst, Common.◌∙◌, Common.Bool, Common.true, Common.Some, Common.None, Common.inl, Common.inr, lemmas.Bool.ltb-true, lemmas.Bool.cases_lt, lemmas.List.get_or_past, lemmas.List.Elements.All-get_or}
 use Rattle.std.specs.Prelude.{nat_lt, ◌&&◌, if◌then◌else◌}
 use Rattle.nmgc_lists.specs.laws.Truths.{and_both}
-use Rattle.nmgc_world_spec.specs.{declared.command.Command.Command, World.World, World.new_world, Reach.IsKept, Listing.Counts}
+use Rattle.nmgc_world_spec.specs.{declared.command.Command.Command, World.World, World.new_world, Reach.IsKept, Reach.Counts}
 use Rattle.nmgc_alloc.specs.laws.Cells.{all_swept}
-use Rattle.nmgc_journal.specs.{declared.report.CycleRow.CycleRow, declared.report.Report.Report, declared.report.End.End, declared.report.End.TheVariants.Done, declared.report.End.TheVariants.HeapFull, Summary.kept_count}
+use Rattle.nmgc_journal.specs.{declared.report.CycleRow.CycleRow, declared.report.Report.Report, declared.report.End.End, declared.report.End.TheVariants.Done, declared.report.End.TheVariants.HeapFull, Text.kept_count}
 use Rattle.nmgc_limits.specs.Limits.{most_script_bytes}
-use Rattle.nmgc_script.specs.{Limits.FitsScript, declared.script.Script.Script, Parts.HasFewCommands}
+use Rattle.nmgc_script.specs.{Spelling.FitsScript, declared.script.Script.Script, Parts.HasFewCommands}
 use Rattle.nmgc_stop_spec.specs.Cycle.{ExceptShared, IsKeptIn, Cycle}
-use Rattle.nmgc_run_spec.specs.{Crowded.StopInRun, Crowded.last_after, Crowded.last_stop, Crowded.IsCrowded, Crowded.LeavesHeapFull, Crowded.IsHeapFull, Crowded.IsRunOf, Lawful.IsLawful, Run.Run, Run.Turn, Run.IsRun, Run.IsTurn, Run.AreTurns, Run.state_after, Run.last_state, Slice.has_left, AfterRound.program_of, State.State, State.Plan, State.Progress, State.idle, State.marking, State.sweeping, State.free_count, Terms.reserve_of, State.cycle_started, State.next_cycle, State.plan_of, State.start, Stop.EndsOrWaits, Stop.Finishes, Stop.DoesFullCycle, Stop.Proceeds, Terms.with_all_retired, Stop.is_short, Terms.is_done, Stop.answer_of, Terms.SweepsRest}
+use Rattle.nmgc_run_spec.specs.{Lawful.StopInRun, Lawful.last_after, Lawful.last_stop, Lawful.IsCrowded, Lawful.LeavesHeapFull, Lawful.IsHeapFull, Lawful.IsRunOf, Lawful.IsLawful, Run.Run, Run.Turn, Run.IsRun, Run.IsTurn, Run.AreTurns, Run.state_after, Run.last_state, Run.has_left, Run.State, Run.Plan, Run.Progress, Run.idle, Run.marking, Run.sweeping, Run.free_count, Run.cycle_started, Run.next_cycle, Run.plan_of, Run.start, Run.EndsOrWaits, Run.Finishes, Run.DoesFullCycle, Run.Proceeds, Run.is_short, Run.answer_of, AfterRound.program_of, Terms.reserve_of, Terms.with_all_retired, Terms.is_done, Terms.SweepsRest}
 use Rattle.nmgc_run_laws.specs.{Statements.LawfulAreOfRuns, Sound.IsRunnable, laws.CycleCounts.free_kept, laws.FullHeaps.full_crowded, laws.FullHeaps.full_short, laws.FullHeaps.kept_last, laws.FullHeaps.full_heap_is_crowded, laws.Limits.scripts_have_good_plans, laws.Programs.HasPrograms, laws.Runs.round_holds, laws.Runs.turn_holds, laws.Runs.opening_worked, laws.Runs.opening_holds, laws.States.IsSoundHere, laws.States.Worked, laws.States.lefts, laws.Stops.stop_holds}
 
 -- the objects that a full cycle keeps

@@ -1,12 +1,12 @@
 -- A heap that is full after a full cycle is crowded: each segment in use has an object that was kept, and none lies in two.
 use Rattle.std.proofs.{Common.ℕ, Common.zero, Common.suc, Common.◌≡◌, Common.◌≢◌, Common.◌⊎◌, Common.◌+◌, Common.◌*◌, Common.◌/◌, Common.◌<◌, Common.◌≤◌, Common.List, Common.[], Common.◌∷◌, Common.length, Common.take, Common.slice_index_or, Common.arith, Common.refl, Common.sym, Common.ap, Common.subst, Common.◌∙◌, Common.Option, Common.Some, Common.None, Common.cond, Common.inl, Common.inr, Math.Nat.lt-div-mul-add, lemmas.List.Sums.sum_by_more, lemmas.List.take_all, lemmas.Bool.cases_eq}
 use Rattle.std.specs.Prelude.{Contains, sum_by}
-use Rattle.nmgc_world_spec.specs.{declared.value.Name.Name, Step.shared_name, Reach.Lists, Listing.AreDistinct}
+use Rattle.nmgc_world_spec.specs.{declared.value.Name.Name, World.shared_name, Reach.Lists, Reach.AreDistinct}
 use Rattle.nmgc_lists.specs.{laws.Items.contains_cases, laws.Items.nothing_in, laws.Options.not_none, laws.Options.some_is}
-use Rattle.nmgc_object.specs.{Size.block_size, declared.layout.Layout.Layout, laws.Classes.least_block as large}
+use Rattle.nmgc_object.specs.{Words.block_size, declared.layout.Layout.Layout, laws.Classes.least_block as large}
 use Rattle.nmgc_segment.specs.declared.state.State.{State as Stands}
 use Rattle.nmgc_segment.specs.declared.state.State.TheVariants as stands
-use Rattle.nmgc_alloc.specs.{Numbered.is, laws.Cells.none_some, laws.Cells.swept_other, laws.Cells.swept_here, laws.Cells.swept_was, laws.Cells.begun_cells, laws.Cells.retired_cells, AllocState.prepared_state, AllocState.retired_state, AllocState.AllocState, AllocState.Cells, AllocState.Sweeps, AllocState.SweepsEach, AllocState.HoldsKept, AllocState.LiesIn, AllocState.cells, AllocState.no_cells, AllocState.name_in, AllocState.cycle_begun, AllocState.all_retired, AllocState.IsIn, AllocState.NoneIs}
+use Rattle.nmgc_alloc.specs.{AllocState.is, AllocState.prepared_state, AllocState.retired_state, AllocState.AllocState, AllocState.Cells, AllocState.Sweeps, AllocState.SweepsEach, AllocState.HoldsKept, AllocState.LiesIn, AllocState.cells, AllocState.no_cells, AllocState.name_in, AllocState.cycle_begun, AllocState.all_retired, AllocState.IsIn, AllocState.NoneIs, laws.Cells.none_some, laws.Cells.swept_other, laws.Cells.swept_here, laws.Cells.swept_was, laws.Cells.begun_cells, laws.Cells.retired_cells}
 use Rattle.nmgc_stop_spec.specs.Cycle.{IsKeptIn, Cycle}
 use Rattle.nmgc_stop_spec.specs.Kept.{IsKeptObject}
 use Rattle.nmgc_run_laws.specs.{Sound.AreSoundBlocks, laws.CycleCounts.free, laws.Filing.sweep_filed}

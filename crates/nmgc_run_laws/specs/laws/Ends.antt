@@ -6,10 +6,10 @@ use Rattle.nmgc_run_laws.specs.laws.Vocabulary.{ℕ, List, [], length, arith, re
 use Rattle.std.proofs.{Common.lit≤, Common.lit<, Math.Nat.mul-le-mul_right, lemmas.Bool.cases_order}
 use Rattle.nmgc_lists.specs.laws.{Items.contains_map, Items.map_contains, Options.some_is}
 use Rattle.nmgc_world_spec.specs.{declared.node.Node.TheVariants.Con, declared.node.Node.TheVariants.Var, declared.node.Node.TheVariants.Arr, declared.node.Node.TheVariants.Thunk, declared.node.Node.TheVariants.Weak, declared.node.Node.TheVariants.Stack, declared.node.Parts.Parts, World.IsShared, Reach.IsAlive, Reach.IsAliveWeak}
-use Rattle.nmgc_object.specs.{declared.layout.TheConstants.FIRST_PLACE, declared.size.TheConstants.HEADER_WORDS, Words.header_word, Words.IsHeader, Places.InSegment, Places.InNursery, Places.word_total}
+use Rattle.nmgc_object.specs.{declared.layout.TheConstants.FIRST_PLACE, declared.size.TheConstants.HEADER_WORDS, Words.header_word, Words.IsHeader, Words.InSegment, Words.InNursery, Words.word_total}
 use Rattle.nmgc_alloc.specs.laws.Placing.{fits, step}
-use Rattle.nmgc_heap_spec.specs.{Shape.header_of, Shape.size_of, Places.LiesInSegment, Represents.IsNamed, Represents.IsObject, Represents.IsPlaced, Roots.IsListedWeak, laws.Roots.wide_tracked, laws.Written.world_is_written}
-use Rattle.nmgc_run_spec.specs.{AtStop.HasHeapOfStop, AtStop.IsLawfulAtStop, Lawful.IsLawful, End.HasObject, End.IsMutatorAtEnd, End.HoldsAtEnd}
+use Rattle.nmgc_heap_spec.specs.{Objects.header_of, Objects.size_of, Objects.LiesInSegment, Represents.IsNamed, Represents.IsObject, Represents.IsPlaced, Roots.IsListedWeak, laws.Roots.wide_tracked, laws.Written.world_is_written}
+use Rattle.nmgc_run_spec.specs.{AtStop.HasHeapOfStop, AtStop.IsLawfulAtStop, Lawful.IsLawful, Lawful.HasObject, Lawful.IsMutatorAtEnd, Lawful.HoldsAtEnd}
 use Rattle.nmgc_run_laws.specs.Ends.{EndsAreStops}
 use Rattle.nmgc_run_laws.specs.laws.{Mutators.each_at_end, Mutators.all_registers, Mutators.roots_at_end, Places.lies_exists, Places.lies_within, CycleCounts.end_is_idle, Crowding.runnable_of, Limits.scripts_have_good_plans, Limits.states_are_within, Runs.states_are_sound}
 use Rattle.nmgc_segment.specs.declared.state.State.TheVariants as stands

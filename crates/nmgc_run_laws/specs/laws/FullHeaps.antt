@@ -5,9 +5,9 @@ use Rattle.nmgc_lists.specs.laws.Truths.{and_both}
 use Rattle.nmgc_world_spec.specs.World.{World, new_world}
 use Rattle.nmgc_segment.specs.declared.state.State.TheVariants as stands
 use Rattle.nmgc_alloc.specs.{AllocState.AllocState, AllocState.IsIn, AllocState.NoneIs, laws.Cells.all_swept}
-use Rattle.nmgc_journal.specs.{declared.report.CycleRow.CycleRow, Summary.kept_count, declared.report.End.End, declared.report.End.TheVariants.Done, declared.report.End.TheVariants.HeapFull, declared.report.RoundRows.RoundRows, declared.report.StopRow.StopRow}
+use Rattle.nmgc_journal.specs.{declared.report.CycleRow.CycleRow, Text.kept_count, declared.report.End.End, declared.report.End.TheVariants.Done, declared.report.End.TheVariants.HeapFull, declared.report.RoundRows.RoundRows, declared.report.StopRow.StopRow}
 use Rattle.nmgc_stop_spec.specs.Cycle.{IsKeptIn, Cycle}
-use Rattle.nmgc_run_spec.specs.{Run.Run, Run.Turn, Run.IsRun, Run.AreTurns, Run.AreRowsOf, Run.state_after, Run.last_state, Slice.has_left, State.State, State.Plan, State.Progress, State.sweeping, State.free_count, Terms.reserve_of, State.start, State.cycle_started, State.layout_of, State.next_cycle, Stop.IsStop, Stop.EndsOrWaits, Stop.DoesFullCycle, Stop.Proceeds, Terms.with_all_retired, Stop.answer_of, Stop.is_short, Terms.is_done, Terms.SweepsRest}
+use Rattle.nmgc_run_spec.specs.{Run.Run, Run.Turn, Run.IsRun, Run.AreTurns, Run.AreRowsOf, Run.state_after, Run.last_state, Run.has_left, Run.State, Run.Plan, Run.Progress, Run.sweeping, Run.free_count, Run.start, Run.cycle_started, Run.layout_of, Run.next_cycle, Run.IsStop, Run.EndsOrWaits, Run.DoesFullCycle, Run.Proceeds, Run.answer_of, Run.is_short, Terms.reserve_of, Terms.with_all_retired, Terms.is_done, Terms.SweepsRest}
 use Rattle.nmgc_run_laws.specs.{Sound.AreSoundBlocks, Sound.IsRunnable, laws.Crowds.IsJudged, laws.Crowds.each_judged, laws.Crowds.begun_judged, laws.Crowds.crowded, laws.CycleCounts.free, laws.CycleCounts.free_kept, laws.Filing.each_filed, laws.Programs.HasPrograms, laws.Runs.round_holds, laws.Runs.turn_holds, laws.Runs.opening_worked, laws.Runs.opening_holds, laws.States.IsSoundHere, laws.States.Worked, laws.States.lefts, laws.Stops.stop_holds, laws.Stops.full_begins}
 
 -- the heap after a full cycle

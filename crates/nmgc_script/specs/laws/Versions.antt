@@ -3,8 +3,8 @@ use Rattle.std.proofs.{Common.◌≡◌, Common.◌≤◌, Common.ℕ, Common.Li
 use Rattle.std.specs.{Prelude.All, Prelude.Bool, Prelude.true, Prelude.false, Prelude.[], Prelude.◌∷◌, Prelude.codes, Prelude.◌==◌, Prelude.if◌then◌else◌, Str.bytes_eq}
 use lib.Count.{ones}
 use Rattle.nmgc_limits.specs.{Limits.most_heap_words, Limits.most_script_bytes, Limits.most_segments, declared.mutators.TheConstants.REGISTERS, declared.mutators.TheConstants.MAKERS}
-use Rattle.nmgc_world_spec.specs.{declared.command.Operand.Operand, declared.command.Operand.TheVariants.Register, declared.command.Operand.TheVariants.Shared, declared.command.Command.Command, declared.command.Command.TheVariants.Num, declared.command.Command.TheVariants.Nil, declared.command.Command.TheVariants.Mov, declared.command.Command.TheVariants.Con, declared.command.Command.TheVariants.Var, declared.command.Command.TheVariants.Arr, declared.command.Command.TheVariants.Thunk, declared.command.Command.TheVariants.Weak, declared.command.Command.TheVariants.Stack, declared.command.Command.TheVariants.Get, declared.command.Command.TheVariants.Set, declared.command.Command.TheVariants.Cas, declared.command.Command.TheVariants.Update, declared.command.Command.TheVariants.Force, declared.command.Command.TheVariants.Push, declared.command.Command.TheVariants.Pop, declared.command.Command.TheVariants.Deref, declared.command.Command.TheVariants.Finalise, declared.command.Command.TheVariants.NextFin, declared.command.Command.TheVariants.Show, declared.command.Command.TheVariants.Same, declared.command.Command.TheVariants.Yield, declared.command.Command.TheVariants.Collect, declared.command.Command.TheVariants.Full, Known.IsOperand, Command.IsOperandBelow, Known.HasRegisters, Command.HasRegistersBelow, Command.Fits}
-use Rattle.nmgc_script.specs.{declared.script.Script.Script, declared.version.Version.Version, Limits.FitsConfig, Limits.FitsScript, Limits.IsVersion, Limits.lines_bytes, Limits.upgraded, Limits.version_1, Limits.version_2, Limits.version_3, Limits.version_of, Parts.bench_config, Parts.total_words}
+use Rattle.nmgc_world_spec.specs.{declared.command.Operand.Operand, declared.command.Operand.TheVariants.Register, declared.command.Operand.TheVariants.Shared, declared.command.Command.Command, declared.command.Command.TheVariants.Num, declared.command.Command.TheVariants.Nil, declared.command.Command.TheVariants.Mov, declared.command.Command.TheVariants.Con, declared.command.Command.TheVariants.Var, declared.command.Command.TheVariants.Arr, declared.command.Command.TheVariants.Thunk, declared.command.Command.TheVariants.Weak, declared.command.Command.TheVariants.Stack, declared.command.Command.TheVariants.Get, declared.command.Command.TheVariants.Set, declared.command.Command.TheVariants.Cas, declared.command.Command.TheVariants.Update, declared.command.Command.TheVariants.Force, declared.command.Command.TheVariants.Push, declared.command.Command.TheVariants.Pop, declared.command.Command.TheVariants.Deref, declared.command.Command.TheVariants.Finalise, declared.command.Command.TheVariants.NextFin, declared.command.Command.TheVariants.Show, declared.command.Command.TheVariants.Same, declared.command.Command.TheVariants.Yield, declared.command.Command.TheVariants.Collect, declared.command.Command.TheVariants.Full, Known.IsOperand, World.IsOperandBelow, World.HasRegistersBelow, World.Fits, Known.HasRegisters}
+use Rattle.nmgc_script.specs.{declared.script.Script.Script, declared.version.Version.Version, Spelling.FitsConfig, Spelling.FitsScript, Spelling.IsVersion, Spelling.lines_bytes, Spelling.upgraded, Spelling.version_1, Spelling.version_2, Spelling.version_3, Spelling.version_of, Parts.bench_config, Parts.total_words}
 
 -- the version names at least one register and one thread, and only registers and threads that exist; its heap is no larger
 -- than a heap may be

@@ -2,7 +2,7 @@
 -- push doesn't help here: a pushed name isn't marked yet. So this is kept apart from the facts.
 use Rattle.std.specs.Prelude.{◌≡◌, ◌≤◌, ◌+◌, ◌∷◌, ◌++◌, ◌⊎◌}
 use Rattle.nmgc_snapshot_laws.specs.laws.Vocabulary.{ℕ, List, [], suc, refl, sym, ap, subst, ◌∙◌, arith, true, false, Option, Some, None, inl, inr, IsSome, Contains, contains_cases, at_some, one_is, name_cases, cases_eq, Contains-append_left, Contains-append_right, Name, Value, Node, World, IsWorld, IsNodeOf, node_of, shared_name, Row, RefersTo, Entry, Event, Facts, IsAhead, queued, unmarked, HasStrongField, advanced, after_command, after_push, after_scan, after_take, Runs, is_last, moved_on, read_at, State, entry_of, mark_name, mark_read, mark_values, names_of, opening, root_values}
-use Rattle.nmgc_world_spec.specs.History.{HoldsThroughout}
+use Rattle.nmgc_world_spec.specs.Reach.{HoldsThroughout}
 use Rattle.nmgc_snapshot_laws.specs.{State.unmarked as first_state, laws.Lives.refers, laws.Lives.target_there, laws.Marking.mark_cases, laws.Marking.ahead_then, laws.Marking.marked_then, laws.ScanReads.read_at_place, laws.ScanReads.within_fields, laws.Scans.entry_stays, laws.Scans.moved_stays, laws.Openings.slot_marked, laws.MarkedOnce.open_before, laws.Runs.SameHistory, laws.Runs.read_history, laws.Runs.scan_history, laws.Runs.push_history, laws.Runs.take_history, laws.Runs.values_history, laws.Runs.event_keeps_facts, laws.Runs.opening_has_facts, laws.Runs.opening_world}
 use Rattle.nmgc_world_spec.specs.declared.value.Value.TheVariants as value
 use Rattle.nmgc_snapshot_laws.specs.declared.event.Event.TheVariants as event

@@ -2,9 +2,9 @@
 use Rattle.std.proofs.{Common.ℕ, Common.◌≡◌, Common.◌≢◌, Common.◌⊎◌, Common.◌+◌, Common.◌-◌, Common.◌*◌, Common.◌<◌, Common.◌≤◌, Common.◌∙◌, Common.inl, Common.inr, Common.refl, Common.sym, Common.ap, Common.subst, Common.arith, Common.List, Common.[], Common.◌∷◌, Common.◌++◌, Common.length, Common.set, Common.length-set, Common.Some, Common.mul-le-mul_right, Math.ListN.get_or-eq_default, lemmas.Bool.cases_eq, lemmas.Bool.cases_lt, lemmas.Nat.div_below, lemmas.List.Elements.Contains-append_left, lemmas.List.Elements.Contains-push, lemmas.List.Elements.Contains-push_cases}
 use Rattle.std.specs.Prelude.{Contains, slice_get}
 use Rattle.nmgc_world_spec.specs.{declared.value.Name.Name, laws.Common.get_set_other, laws.Common.get_set_same}
-use Rattle.nmgc_object.specs.{declared.layout.Layout.Layout, declared.layout.TheConstants.FIRST_PLACE, declared.size.TheConstants.MIN_BLOCK_WORDS, Layouts.IsLayout, Size.block_size, laws.Classes.least_block as large}
+use Rattle.nmgc_object.specs.{declared.layout.Layout.Layout, declared.layout.TheConstants.FIRST_PLACE, declared.size.TheConstants.MIN_BLOCK_WORDS, Layouts.IsLayout, Words.block_size, laws.Classes.least_block as large}
 use Rattle.nmgc_segment.specs.declared.state.State.TheVariants.{Free}
-use Rattle.nmgc_alloc.specs.{Numbered.nth, Numbered.Segments, Numbered.HasNumber, Numbered.block_place, Segments.IsSegments, Segments.IsBlockAt, AllocState.AllocState, AllocState.Cells, AllocState.Sweeps, AllocState.SweepsEach, AllocState.SweepsSome, AllocState.HoldsKept, AllocState.LiesIn, AllocState.cells, AllocState.name_in, AllocState.no_cells, AllocState.all_empty, AllocState.all_retired, AllocState.cycle_begun, Stands.StandsFor, laws.Apart.blocks_lie_apart, laws.Apart.lies_in, laws.Cells.none_some, laws.Cells.swept_back, laws.Cells.swept_other, laws.Cells.begun_cells, laws.Cells.retired_cells, laws.OneState.first_cells, laws.Placing.inside}
+use Rattle.nmgc_alloc.specs.{AllocState.nth, AllocState.Segments, AllocState.HasNumber, AllocState.block_place, AllocState.AllocState, AllocState.Cells, AllocState.Sweeps, AllocState.SweepsEach, AllocState.SweepsSome, AllocState.HoldsKept, AllocState.LiesIn, AllocState.cells, AllocState.name_in, AllocState.no_cells, AllocState.all_empty, AllocState.all_retired, AllocState.cycle_begun, AllocState.StandsFor, Segments.IsSegments, Segments.IsBlockAt, laws.Apart.blocks_lie_apart, laws.Apart.lies_in, laws.Cells.none_some, laws.Cells.swept_back, laws.Cells.swept_other, laws.Cells.begun_cells, laws.Cells.retired_cells, laws.OneState.first_cells, laws.Placing.inside}
 use Rattle.nmgc_heap_spec.specs.Moves.{Moved}
 use Rattle.nmgc_sweep.specs.NameTable.{AreNamed, HaveEntries, HaveNoted, entry_of, named_at}
 

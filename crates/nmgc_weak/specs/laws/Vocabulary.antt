@@ -1,5 +1,5 @@
 -- Every name of std, of the crates below and of this crate's definitions that the lemmas of these laws speak of.
-pub use Rattle.nmgc_heap_spec.specs.Places.{Place}
+pub use Rattle.nmgc_heap_spec.specs.Objects.{Place}
 pub use Rattle.nmgc_lists.specs.laws.{Items.contains_cases, Items.contains_head, Items.contains_tail, Items.filter_contains, Items.nothing_in, Truths.same_test}
 pub use Rattle.nmgc_weak.specs.{Rows.leaves_at, Rows.left_of, Weaks.alive_of, Weaks.finaliser_place, Weaks.is_alive, Weaks.names_of, Weaks.place_of as place_at, Weaks.places_of, Weaks.value_place, declared.weaks.OldWeak.OldWeak}
 pub use Rattle.nmgc_world_spec.specs.declared.value.Name.{Name}

@@ -1,7 +1,7 @@
 -- The nodes, and the state of other mutators, after every command.
 use Rattle.std.proofs.{Common.◌≡◌, Common.◌≢◌, Common.◌<◌, Common.ℕ, Common.length, Common.refl, Common.sym, Common.ap, Common.subst, Common.◌∙◌, Common.length-set, Common.Option, Common.Some, Common.None, Common.inl, Common.inr, lemmas.Bool.cases_eq, lemmas.Bool.Decides.eqb_tells}
 use Rattle.std.specs.Prelude.{IfSome, All}
-use Rattle.nmgc_world_spec.specs.{declared.command.Command.Command, declared.change.Change.Change, declared.value.Name.Name, declared.value.Value.Value, declared.node.Node.Node, declared.mutator_state.MutatorState.MutatorState, World.World, World.state_of, World.node_of, World.held_by, Change.changed, Step.with_state, Pieces.with_nth, Step.with_node, Step.next_name, Step.step}
+use Rattle.nmgc_world_spec.specs.{declared.command.Command.Command, declared.change.Change.Change, declared.value.Name.Name, declared.value.Value.Value, declared.node.Node.Node, declared.mutator_state.MutatorState.MutatorState, World.World, World.state_of, World.node_of, World.held_by, World.changed, World.with_state, World.with_node, World.next_name, World.step, Pieces.with_nth}
 use Rattle.nmgc_world_spec.specs.declared.command.Command.TheVariants as command
 use Rattle.nmgc_limits.specs.declared.mutators.TheConstants.{SHARED_MAKER}
 use Rattle.nmgc_lists.specs.laws.Items.{at_some}

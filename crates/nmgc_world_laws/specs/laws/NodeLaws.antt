@@ -2,7 +2,7 @@
 use Rattle.std.proofs.{Common.◌≡◌, Common.◌≢◌, Common.◌<◌, Common.ℕ, Common.List, Common.[], Common.◌∷◌, Common.◌++◌, Common.zero, Common.suc, Common.length, Common.refl, Common.sym, Common.ap, Common.subst, Common.◌∙◌, Common.arith, Common.length-set, Common.Option, Common.Some, Common.None, Common.true, Common.cond, Common.eqb, Common.inl, Common.inr, Common.◌⊎◌, lemmas.List.get_or-set_same, lemmas.List.get_or-set_other, lemmas.List.get_or_past, lemmas.Option.slice_get_past, lemmas.Option.slice_get_within, lemmas.Bool.ne_eqb, lemmas.Bool.cases_lt, lemmas.Bool.cases_eq, lemmas.Bool.Decides.eqb_tells}
 use Rattle.std.specs.Prelude.{slice_get}
 use Rattle.nmgc_limits.specs.declared.mutators.TheConstants.{SHARED_MAKER}
-use Rattle.nmgc_world_spec.specs.{declared.value.Name.Name, declared.node.Node.Node, declared.mutator_state.MutatorState.MutatorState, World.World, World.state_of, World.node_of, World.no_mutator, Step.with_state, Pieces.with_new, Pieces.with_nth, Step.with_node, Step.next_name, laws.Orders.name_cases, laws.Orders.same_name}
+use Rattle.nmgc_world_spec.specs.{declared.value.Name.Name, declared.node.Node.Node, declared.mutator_state.MutatorState.MutatorState, World.World, World.state_of, World.node_of, World.no_mutator, World.with_state, World.with_node, World.next_name, Pieces.with_new, Pieces.with_nth, laws.Orders.name_cases, laws.Orders.same_name}
 use Rattle.nmgc_lists.specs.laws.Items.{slice_get-set_same, slice_get-set_other}
 
 -- the world with another state of a mutator

@@ -20,8 +20,7 @@ absorb-requires-clause-queue g c =
     let before = c.pop.new.self.items in
     let popped : c.args.crew.items ≡ before ++ c.in-Some.last ∷ [] = search rules in
     let it = worker_at c.args.queue.now c.args.jobs.now c.args.crew.items c.requires.crew (length before) c.in-Some.last
-    (last_at c.args.crew.items before c.in-Some.last popped) in
-    (
+    (last_at c.args.crew.items before c.in-Some.last popped) in (
       subst (λ p. IsSegPassOf c.args.queue.now p) (sym c.replace-theirs.ensures.after) c.in_ok-by.ensures.pass,
       subst (λ p. IsSegPassOf c.args.queue.now p) (sym c.replace-theirs.ensures.value) it.pass,
     )

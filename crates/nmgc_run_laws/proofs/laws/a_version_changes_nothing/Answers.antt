@@ -11,8 +11,6 @@ other_version script version report h = record {
   is_run = h.is_run;
   agrees = h.agrees;
   end_is = h.end_is;
-  weaks = h.weaks;
-  weaks_are = h.weaks_are;
   heap = h.heap;
 }
 
@@ -23,8 +21,6 @@ same_version script version report h = record {
   is_run = h.is_run;
   agrees = h.agrees;
   end_is = h.end_is;
-  weaks = h.weaks;
-  weaks_are = h.weaks_are;
   heap = h.heap;
 }
 

@@ -1,5 +1,5 @@
 use Rattle.std.proofs.{Common.ℕ, Common.◌≡◌, Common.◌+◌, Common.◌*◌, Common.◌^◌, Common.◌<◌, Common.◌≤◌, Common.◌∙◌, Common.ap, Common.inl, Common.inr, Common.arith, lemmas.Bool.cases_lt, lemmas.Nat.pow_below}
-use Rattle.nmgc_object.specs.{Layouts.IsLayout, Places.class_count, declared.layout.Layout.Layout, laws.Classes.count_to, laws.Classes.count_at}
+use Rattle.nmgc_object.specs.{Layouts.IsLayout, Words.class_count, declared.layout.Layout.Layout, laws.Classes.count_to, laws.Classes.count_at}
 use Rattle.nmgc_run_laws.proofs.laws.classes_are_counted.Goals as goal
 
 -- no segment has more words than eight doublings give

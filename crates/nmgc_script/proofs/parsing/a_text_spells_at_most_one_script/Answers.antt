@@ -1,4 +1,4 @@
-use Rattle.nmgc_script.specs.Text.{kept_lines}
+use Rattle.nmgc_script.specs.Spelling.{kept_lines}
 use Rattle.nmgc_script.specs.Parts.{end_of}
 use Rattle.nmgc_script.proofs.{ScriptLaws.one_script, OneFault.one_fault, OneFault.never_both}
 use Rattle.nmgc_script.proofs.parsing.a_text_spells_at_most_one_script.Goals as goal

@@ -1,6 +1,6 @@
 use Rattle.nmgc_sweep.proofs.Vocabulary.{◌≡◌, ◌++◌}
 use Rattle.std.specs.Prelude.{replicate, vec_capacity}
-use Rattle.nmgc_world_spec.specs.Step.{shared_name}
+use Rattle.nmgc_world_spec.specs.World.{shared_name}
 use Rattle.nmgc_sweep.proofs.name_table.add_missing.Given as goal
 
 abbrev pub invariant-loop-added : goal.invariant-loop-added

@@ -1,14 +1,61 @@
--- The places of objects, and the meaning of a field word.
+-- Objects of a heap: the header and fields of a node, the place of an object, and the meaning of a field word.
 --
+-- A command that changes a node leaves its header, so an object never changes size. Only fields of `Changes.MayChange` ever change.
+use Rattle.std.specs.Prelude.{List, None, Some, [], length, map, replicate, slice_get, slice_index, ℕ, ◌*◌, ◌++◌, ◌+◌, ◌-◌, ◌<◌, ◌∷◌, ◌≡◌, ◌≢◌, ◌≤◌, ◌⊎◌}
+use Rattle.nmgc_limits.specs.declared.mutators.TheConstants.{SHARED_MAKER, SHARED_SLOTS}
+use Rattle.nmgc_world_spec.specs.declared.node.Node.TheVariants.{Arr, Con, Stack, Thunk, Var, Weak}
+use Rattle.nmgc_world_spec.specs.{World.shared_name, declared.node.Node.Node, declared.value.Name.Name, declared.value.Value.Value}
+use Rattle.nmgc_world_spec.specs.declared.node.Kind.TheVariants as kind
+use Rattle.nmgc_world_spec.specs.declared.value.Value.TheVariants as value
+use Rattle.nmgc_object.specs.{Words.InNursery, Words.InSegment, declared.layout.Layout.Layout, declared.layout.TheConstants.FIRST_PLACE, declared.layout.TheConstants.SHARED_PLACE, declared.size.TheConstants.HEADER_WORDS, declared.words.Header.Header, declared.words.TheConstants.NIL_WORD, declared.words.TheConstants.VAR_FIELDS, declared.words.TheConstants.WEAK_FIELDS, declared.words.TheConstants.ZERO_WORD}
+
+-- the header of a node's object: a thunk's fields are its result and its free variables, a stack's are its slots
+abbrev pub header_of : Node → Header
+header_of (Con tag values) = record { kind = kind.Con; tag = tag; fields = length values }
+header_of (Var v) = record { kind = kind.Var; tag = 0; fields = VAR_FIELDS }
+header_of (Arr values) = record { kind = kind.Arr; tag = 0; fields = length values }
+header_of (Thunk free result) = record { kind = kind.Thunk; tag = 0; fields = length free + 1 }
+header_of (Weak parts) = record { kind = kind.Weak; tag = 0; fields = WEAK_FIELDS }
+header_of (Stack size values) = record { kind = kind.Stack; tag = 0; fields = size }
+
+-- the size of a node's object in words: its header words and its fields
+abbrev pub size_of : Node → ℕ
+size_of node = HEADER_WORDS + (header_of node).fields
+
+-- the specification of a field: it holds a value, it is unset, or nothing is said of it
+pub data Slot : Type 0 where
+  holds : Value → Slot
+  unset : Slot
+  unspecified : Slot
+
+-- a node's fields, in order. A constructor, a variable or an array has its values. A thunk has its result alone once there is
+-- one, else an unset result and its free variables. A weak pointer that is alive has its parts; of a dead weak pointer only
+-- the unset value is specified. A stack has its values and then unset slots
+abbrev pub slots_of : Node → List Slot
+slots_of (Con tag values) = map holds values
+slots_of (Var v) = holds v ∷ []
+slots_of (Arr values) = map holds values
+slots_of (Thunk free None) = unset ∷ map holds free
+slots_of (Thunk free (Some result)) = holds result ∷ replicate (length free) unspecified
+slots_of (Weak None) = unspecified ∷ unset ∷ unspecified ∷ []
+slots_of (Weak (Some parts)) = holds parts.key ∷ holds parts.value ∷ holds parts.finaliser ∷ []
+slots_of (Stack size values) = map holds values ++ replicate (size - length values) unset
+
+-- the permanent fields of an earlier node: free variables of a thunk without result, key and finaliser of a weak pointer that
+-- is alive
+abbrev pub fixed_slots : Node → List Slot
+fixed_slots (Thunk free None) = unspecified ∷ map holds free
+fixed_slots (Weak (Some parts)) = holds parts.key ∷ unspecified ∷ holds parts.finaliser ∷ []
+fixed_slots _ = []
+
+-- the permanent fields of an earlier node, free variables only
+abbrev pub free_slots : Node → List Slot
+free_slots (Thunk free None) = unspecified ∷ map holds free
+free_slots _ = []
+
 -- A pointer means the name of the object at its address, so the meaning of a word depends on the places. A predicate says
 -- which places a pointer may go to: the places of a list, or of the objects of a round so far. Growth of places is then an
 -- implication, and nothing has to decide whether a name is still in use.
-use Rattle.std.specs.Prelude.{ℕ, ◌≡◌, ◌≢◌, ◌+◌, ◌*◌, ◌<◌, ◌≤◌, ◌⊎◌, List, [], ◌∷◌, slice_index, slice_get, Some}
-use Rattle.nmgc_world_spec.specs.{declared.value.Name.Name, declared.value.Value.Value, Step.shared_name}
-use Rattle.nmgc_world_spec.specs.declared.value.Value.TheVariants as value
-use Rattle.nmgc_limits.specs.declared.mutators.TheConstants.{SHARED_MAKER, SHARED_SLOTS}
-use Rattle.nmgc_object.specs.{Places.InSegment, Places.InNursery, declared.layout.Layout.Layout, declared.layout.TheConstants.SHARED_PLACE, declared.layout.TheConstants.FIRST_PLACE, declared.size.TheConstants.HEADER_WORDS, declared.words.TheConstants.NIL_WORD, declared.words.TheConstants.ZERO_WORD}
-use Rattle.nmgc_heap_spec.specs.Shape.{Slot, holds, unset, unspecified}
 
 -- a place: the address of an object (the word at which it begins), and its name
 pub record Place : Type 0 where
