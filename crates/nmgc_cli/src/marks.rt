@@ -2,8 +2,8 @@
 //!
 //! The run is as for `run`. After its end the heap is no longer written. So several markers can mark side by side all objects
 //! that strong fields reach from the registers, the finaliser queues and the slots of g (`nmgc_pmark`). The names of these
-//! objects are written in place of the report's text: they are the same for any number of markers. Easy to get wrong: several
-//! threads can't read a report's words at once, since a closed table may not be shared. The words are copied first.
+//! objects are written in place of the report's text: they are the same for any number of markers. The markers read the
+//! report's words in their closed table, and copy none.
 ghost use Rattle.std.specs.Prelude.{◌≡◌, ℕ, [], ◌∷◌, ◌++◌, decimal, map, string_bytes, IfOk, IfSome, IfNone, OnOk};
 ghost use Rattle.std.specs.List.{flat_map};
 ghost use Rattle.nmgc_journal.specs.Text.{name_line};
@@ -16,7 +16,7 @@ use crate::output::Output;
 use crate::run::read_and_run;
 use nmgc_io::{Source, push_number, read_number};
 use nmgc_journal::text::push_end;
-use nmgc_journal::{End, FinalWords, MutatorEnd, Report, push_name};
+use nmgc_journal::{End, MutatorEnd, Report, push_name};
 use nmgc_lists::NoMemory;
 use nmgc_pmark::laws::{a_stop_is_stopped, roots_start_strong_reach};
 use nmgc_pmark::{Claims, MOST_MARKERS, mark_all, names_of};
@@ -77,7 +77,7 @@ pub fn marks<R: Threads + Sync, S: Source>(
 }
 
 /// Lets `markers` markers mark the heap that a run left, and returns the text of `marks N`. The text has N, the number of
-/// names marked, these names in order, and the end of the run. Takes memory for heap words, markers and text.
+/// names marked, these names in order, and the end of the run. Takes memory for markers, names and text.
 pub fn marks_text<R: Threads + Sync>(
     alloc: Global,
     rt: &R,
@@ -96,7 +96,7 @@ pub fn marks_text<R: Threads + Sync>(
 
 /// Lets `markers` markers mark the heap that a run left, and returns their claims: for each marker, the names that it marked.
 /// Requires a possible number of markers, and the report of a run of a script. Each marker passes `gate` before each object;
-/// a test has a gate at which two meet. Takes memory for markers and copied words.
+/// a test has a gate at which two meet. Takes memory for markers and names.
 pub fn claims_of<R: Threads + Sync, G: Gate>(
     alloc: Global,
     rt: &R,
@@ -111,28 +111,16 @@ pub fn claims_of<R: Threads + Sync, G: Gate>(
     a_stop_is_stopped();
     // Note [Lines that do nothing] in `nmgc_alloc`: this gives the prover that segments are sound, for laws on a run's heap.
     let _ = report.segments.layout();
-    let words = copy_words(alloc, &report.words)?;
     let roots = root_words(alloc, report.mutators.items())?;
     mark_all(
         alloc,
         rt,
-        &words,
+        &report.words,
         &report.segments,
         roots.as_slice(),
         markers,
         gate,
     )
-}
-
-// Returns a copy of the heap's words as a vector, which several threads may read at once.
-fn copy_words(alloc: Global, words: &FinalWords) -> Result<Vec<u64>, NoMemory>
-    ensures { IfOk result (λ copy. copy.items ≡ words.now) }
-{
-    let mut copy = Vec::with_capacity(alloc, words.len())?;
-    for at in 0..words.len() {
-        copy.push(words.word(at))?;
-    }
-    Ok(copy)
 }
 
 // Returns the words from which the markers begin: the registers of all mutators, and then their finaliser queues.

@@ -7,7 +7,7 @@ use Rattle.nmgc_arguments.specs.Output as shared
 use Rattle.nmgc_io.specs.Text.{Takes, TakesUpTo, lines_of}
 use Rattle.nmgc_world_spec.specs.declared.value.Name.{Name}
 use Rattle.nmgc_lists.specs.declared.memory.NoMemory.{NoMemory as NoMemoryOf}
-use Rattle.nmgc_fin.specs.{declared.job.Job.Job, declared.run.TheConstants.MOST_WORKERS, declared.top.TheConstants.MAX_REPORT_BYTES, declared.top.FinStatus.FinStatus, declared.top.Output.Output, Handles.Handles, Handles.joined, Jobs.AreJobsOf, Jobs.IsFirstBad, Jobs.weak_of, Order.IsPlaced, Order.jobs_text}
+use Rattle.nmgc_fin.specs.{declared.job.Job.Job, declared.run.TheConstants.MOST_WORKERS, declared.reading.TheConstants.MAX_REPORT_BYTES, declared.top.FinStatus.FinStatus, declared.top.Output.Output, Handles.Handles, Handles.joined, Jobs.AreJobsOf, Jobs.IsFirstBad, Jobs.weak_of, Order.IsPlaced, Order.jobs_text}
 use Rattle.nmgc_fin.specs.declared.top.FinStatus.TheVariants.{Done, Usage, ReadFault, WriteFault, BadReport, TooLong, NoMemory}
 
 -- the number of workers is allowed

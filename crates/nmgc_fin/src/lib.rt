@@ -5,7 +5,7 @@
 //! by a fact about the queue: the jobs that its passes took and the jobs left are together the pushed jobs. No worker waits
 //! for another, and the output doesn't depend on which worker handled which job.
 //!
-//! - `job`, `text`: a job, and the jobs of a report's text.
+//! - `job`, `text`, `scan`, `reading`: a job, the jobs of a report's text, a text taken in pieces, and a report read in pieces.
 //! - `hand`, `plays`: the knowledge of a pass of the queue, and the rule of the queue.
 //! - `worker`, `run`: one worker, and all of them.
 //! - `order`: the handled jobs in order of number, as text.
@@ -20,7 +20,9 @@ pub mod hand;
 pub mod job;
 pub mod order;
 mod plays;
+pub mod reading;
 pub mod run;
+pub mod scan;
 pub mod text;
 pub mod top;
 pub mod worker;

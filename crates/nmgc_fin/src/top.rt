@@ -1,27 +1,26 @@
 //! The program's top call.
 //!
-//! The work goes one way: arguments, bytes, jobs, workers, text, sink. The first refusal is the output. The output is
+//! The work goes one way: arguments, bytes and jobs, workers, text, sink. The bytes are read in pieces and not kept. The first refusal is the output. The output is
 //! complete before the sink is used, so a sink that fails changes only the status.
 ghost use Rattle.std.specs.Prelude.{◌≡◌, ◌≤◌, ℕ, List, [], ◌∷◌, length, map, string_bytes, IfOk, IfSome, IfNone, decimal};
 ghost use Rattle.nmgc_io.specs.Text.{Rose};
 ghost use Rattle.nmgc_arguments.specs.Output.{text_bytes};
-ghost use Rattle.nmgc_fin.specs.{Handles.AreNumbered, Handles.Handles, declared.top.TheConstants.MAX_REPORT_BYTES, declared.top.FinStatus.FinStatus as StatusOf};
+ghost use Rattle.nmgc_fin.specs.{Handles.AreNumbered, Handles.Handles, Scan.HasScanned, declared.reading.TheConstants.MAX_REPORT_BYTES, declared.top.FinStatus.FinStatus as StatusOf};
 ghost use Rattle.nmgc_fin.specs.Program.{IsCount, Asks, IsWrong, number_of, IsFixed, fixed_text, bad_text, IsMadeOf, AreDone, SaysOfBytes, Says, IsWritten, IsComplete};
 
 use crate::job::Job;
 use crate::order::{handled_text, names_in_order};
+use crate::reading::read_report;
 use crate::run::{Handled, MOST_WORKERS, run_jobs};
-use crate::text::{JobsFault, jobs};
+use crate::scan::Scan;
+use crate::text::JobsFault;
 use nmgc_arguments::{Text, write_output};
-use nmgc_io::{ReadEnd, Sink, Source, push_number, read_all, read_number};
+use nmgc_io::{ReadEnd, Sink, Source, push_number, read_number};
 use nmgc_lists::NoMemory;
 use nmgc_round::OpenGate;
 use std::alloc::Global;
 use std::sync::Wait;
 use std::thread::Threads;
-
-/// The most bytes of a report.
-pub const MAX_REPORT_BYTES: usize = 268_435_456;
 
 /// How the program ended, with the exit number of the process. Two variants share number 5: the text distinguishes them.
 #[derive(Clone, Copy, Debug, PartialEq, Eq)]
@@ -106,26 +105,28 @@ fn output_of<R: Threads + Wait + Sync, S: Source>(
     let Some(workers) = workers_of(arguments) else {
         return fixed_output(FinStatus::Usage);
     };
-    match read_all(alloc, source, MAX_REPORT_BYTES) {
-        Ok(bytes) => output_of_bytes(alloc, rt, workers, bytes.as_slice()),
+    let mut scan = Scan::new(alloc);
+    match read_report(alloc, source, &mut scan) {
+        Ok(()) => output_of_scan(alloc, rt, workers, scan),
         Err(ReadEnd::ReadFault) => fixed_output(FinStatus::ReadFault),
         Err(ReadEnd::TooLong) => fixed_output(FinStatus::TooLong),
         Err(ReadEnd::NoMemory) => fixed_output(FinStatus::NoMemory),
     }
 }
 
-// Handles the jobs of a report with `workers` workers, and returns the output. If a line is bad, handles no job.
-fn output_of_bytes<R: Threads + Wait + Sync>(
+// Handles the jobs of a report with `workers` workers, and returns the output. If a line is bad, handles no job. The scan has
+// taken the whole report.
+fn output_of_scan<R: Threads + Wait + Sync>(
     alloc: Global,
     rt: &R,
     workers: u8,
-    bytes: &[u8],
+    scan: Scan,
 ) -> Output
     requires workers { IsCount workers }
-    requires most { length bytes.now ≤ MAX_REPORT_BYTES }
-    ensures { SaysOfBytes workers bytes.now result.status (text_bytes result.text) }
+    requires taken { (bytes : List ℕ) × HasScanned scan bytes × (length bytes ≤ MAX_REPORT_BYTES) }
+    ensures { (bytes : List ℕ) → HasScanned scan bytes → SaysOfBytes workers bytes result.status (text_bytes result.text) }
 {
-    match jobs(alloc, bytes) {
+    match scan.finish() {
         Ok(jobs) => output_with(FinStatus::Done, done_text(alloc, rt, workers, jobs.items())),
         Err(JobsFault::Bad { line }) => output_with(FinStatus::BadReport, bad_text(alloc, line)),
         Err(JobsFault::NoMemory) => fixed_output(FinStatus::NoMemory),

@@ -34,6 +34,21 @@ fn lines_of_dead_weak_pointers_give_jobs(rt: HostRuntime) -> Result<(), Fail> {
     Ok(())
 }
 
+#[test]
+fn long_lines_are_known_by_their_front(rt: HostRuntime) -> Result<(), Fail> {
+    let text = b"0 a reply of more bytes than are kept of a line\ndead 0.4\n".as_slice();
+    let Ok(found) = jobs(rt.alloc(), text) else {
+        panic!(rt; "no jobs");
+    };
+    assert!(rt; found.items().len() == 1);
+    let text = b"dead 0.4\ndead 0.4 and more bytes than are kept of a line\n".as_slice();
+    let Err(JobsFault::Bad { line }) = jobs(rt.alloc(), text) else {
+        panic!(rt; "no bad line");
+    };
+    assert!(rt; line == 2);
+    Ok(())
+}
+
 // A report with two dead weak pointers, and the output for it.
 const TWO: &str = "report 1\n0 dead\ndead 0.4\ndead g\nend done\n";
 

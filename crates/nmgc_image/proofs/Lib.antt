@@ -22,4 +22,5 @@ pub mod Taken
 pub mod FirstBad
 pub mod Visiting
 pub mod Words
+pub mod Written
 mod Vocabulary

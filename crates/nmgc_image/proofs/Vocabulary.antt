@@ -2,7 +2,7 @@
 pub use Rattle.nmgc_alloc.specs.{AllocState.nth, Segments.IsBlockAt}
 pub use Rattle.nmgc_heap_spec.specs.{Objects.AllMean, Objects.ListMeans, Objects.Means, Objects.Place, Objects.header_of, Objects.size_of, Represents.NoNode, laws.Changes.lies_within, laws.Headers.same_header, laws.Kinds.AreUnset, laws.Kinds.HasFields, laws.Kinds.fields_of_slots, laws.Kinds.item_cases, laws.Kinds.map_item, laws.Meanings.above_zero, laws.Meanings.placed_at, laws.Roots.wide_tracked, laws.Tracking.reached_in}
 pub use Rattle.nmgc_io.specs.{Text.tokens_of, Spaced.after_spaces, Text.ended, Text.spaced}
-pub use Rattle.nmgc_image.specs.{Image.Begins, Image.IsDeclared, Image.IsFirstBad, Image.IsWritable, Image.AreInOrder, Image.IsEntry, Image.IsHeld, Image.IsImage, Image.IsMade, Image.IsMutator, Image.IsNode, Image.IsOrderly, Image.IsOwned, Image.names_of, Image.values_in, Image.values_of, Image.ListsHeld, Image.Shows, Image.ShowsMutator, Image.shown, Image.Spells, Image.entry_words, Image.image_lines, Image.mutator_lines, Image.mutator_words, Image.node_words, Image.queue_words, Image.register_words, Image.Cut, Image.cut, Image.onto_cut, Results.IsFaultOf, Known.test_of, Left.IsLeftAs, Left.LiesWideAt, Left.ShownIsImage, Left.most_object_words, Names.IsTestOf, Objects.IsNamedAt, Objects.IsObjectAt, Objects.IsReadable, Objects.begins_unset, Objects.fields_at, Objects.is_pointer, Objects.leading, Objects.made_of, Objects.name_in, Objects.node_read, Objects.pointers, Objects.thunk_of, Objects.value_words, Objects.value_words_at, Objects.thunk_words, Objects.weak_words, Objects.value_in, Plain.IsPlain, Printing.printed, Reaching.ArePointers, Reaching.IsMutatorRoot, Reaching.IsOwnRoot, Reaching.IsReadyFor, Reaching.IsRootPlace, Reaching.IsSearch, Reaching.IsWeakBlock, Reaching.IsWeakIn, Reaching.IsWeakRoot, Reaching.PointWithin, Reaching.Reaches, Reaching.ReachesObjects, Reaching.Visits, Reading.AreMentionsIn, Reading.AreRead, Reading.AreTaken, Reading.Fails, Reading.FindsDeclared, Reading.Halts, Reading.HaveSame, Reading.IsAnswer, Reading.IsStep, Reading.IsStuck, Reading.Refuses, Reading.begun, Reading.can_follow, Reading.has_key, Reading.image_of, Reading.is_above, Reading.is_after, Reading.is_before, Reading.is_below, Reading.is_declared, Reading.is_full, Reading.is_nil, Reading.is_object_in, Reading.is_open, Reading.is_own_in, Reading.is_owned, Reading.is_shared, Reading.key_in, Reading.key_of, Reading.keys_beside, Reading.keys_in, Reading.keys_of, Reading.new_own, Reading.object_at, Reading.run, Reading.start, Reading.with_entry, Reading.with_register, Shown.CanShowOwn, Shown.IsKeyed, Shown.IsReadableObject, Shown.IsShownAt, Shown.ListsObjects, Shown.ShowsOwn, Shown.keyed_at, Printing.first_words, Printing.last_words, Printing.own_lines}
+pub use Rattle.nmgc_image.specs.{Image.Begins, Image.IsDeclared, Image.IsFirstBad, Image.IsWritable, Image.AreInOrder, Image.IsEntry, Image.IsHeld, Image.IsImage, Image.IsMade, Image.IsMutator, Image.IsNode, Image.IsOrderly, Image.IsOwned, Image.names_of, Image.values_in, Image.values_of, Image.ListsHeld, Image.Shows, Image.ShowsMutator, Image.shown, Image.Spells, Image.entry_words, Image.image_lines, Image.mutator_lines, Image.mutator_words, Image.node_words, Image.queue_words, Image.register_words, Image.Cut, Image.cut, Image.onto_cut, Results.IsFaultOf, Known.test_of, Left.IsLeftAs, Left.LiesWideAt, Left.ShownIsImage, Left.most_object_words, Names.IsTestOf, Objects.IsNamedAt, Objects.IsObjectAt, Objects.IsReadable, Objects.begins_unset, Objects.fields_at, Objects.is_pointer, Objects.leading, Objects.made_of, Objects.name_in, Objects.node_read, Objects.pointers, Objects.thunk_of, Objects.value_words, Objects.value_words_at, Objects.thunk_words, Objects.weak_words, Objects.value_in, Plain.IsPlain, Printing.printed, Reaching.ArePointers, Reaching.IsMutatorRoot, Reaching.IsOwnRoot, Reaching.IsReadyFor, Reaching.IsRootPlace, Reaching.IsSearch, Reaching.IsWeakBlock, Reaching.IsWeakIn, Reaching.IsWeakRoot, Reaching.PointWithin, Reaching.Reaches, Reaching.ReachesObjects, Reaching.Visits, Reading.AreMentionsIn, Reading.AreRead, Reading.AreTaken, Reading.Fails, Reading.FindsDeclared, Reading.Halts, Reading.HaveSame, Reading.IsAnswer, Reading.IsStep, Reading.IsStuck, Reading.Refuses, Reading.begun, Reading.can_follow, Reading.has_key, Reading.image_of, Reading.is_above, Reading.is_after, Reading.is_before, Reading.is_below, Reading.is_declared, Reading.is_full, Reading.is_nil, Reading.is_object_in, Reading.is_open, Reading.is_own_in, Reading.is_owned, Reading.is_shared, Reading.key_in, Reading.key_of, Reading.keys_beside, Reading.keys_in, Reading.keys_of, Reading.new_own, Reading.object_at, Reading.run, Reading.start, Reading.with_entry, Reading.with_register, Shown.CanShowOwn, Shown.IsKeyed, Shown.IsReadableObject, Shown.IsShownAt, Shown.ListsObjects, Shown.PrintsObjects, Shown.comes_after, Shown.ShowsOwn, Shown.keyed_at, Printing.first_words, Printing.last_words, Printing.own_lines}
 pub use Rattle.nmgc_image.specs.declared.{declared.Declared.Declared, fault.ImageFault.ImageFault, fault.LineFault.LineFault, image.Entry.Entry, image.Held.Held, image.Image.Image, image.ImageMutator.ImageMutator, reader.Reader.Reader, search.Search.Search, heap_image.Keyed.Keyed, text.Lines.Lines}
 pub use Rattle.nmgc_journal.specs.{Reading.name_at, Reading.number_at, Reading.value_at, Reading.◌>>=◌, Text.IsValue, Text.name_text, Text.value_text, declared.report.MutatorEnd.MutatorEnd, declared.report.Report.Report, laws.Reading.Reads, laws.Reading.bind_some, laws.Reading.guard_some, laws.Reading.name_reads, laws.Reading.number_again, laws.Reading.number_given, laws.Reading.number_takes, laws.Reading.value_reads}
 pub use Rattle.nmgc_limits.specs.declared.mutators.TheConstants.{MAKERS, REGISTERS, SHARED_MAKER, SHARED_SLOTS}

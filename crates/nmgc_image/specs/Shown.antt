@@ -1,9 +1,9 @@
 -- How the image of a heap is made. These are the terms of the private contracts: only `Shows` says which image shows a heap.
-use Rattle.std.specs.Prelude.{◌≡◌, ℕ, List, length, map, All, Contains}
+use Rattle.std.specs.Prelude.{◌≡◌, ◌++◌, ℕ, Bool, true, List, length, map, All, Contains, Option, Some, None}
 use Rattle.nmgc_limits.specs.declared.mutators.TheConstants.{REGISTERS}
-use Rattle.nmgc_world_spec.specs.Reach.{IsInOrder}
+use Rattle.nmgc_world_spec.specs.{Reach.IsInOrder, declared.value.Name.Name}
 use Rattle.nmgc_journal.specs.declared.report.MutatorEnd.{MutatorEnd}
-use Rattle.nmgc_image.specs.{declared.image.Entry.Entry, declared.image.ImageMutator.ImageMutator, declared.heap_image.Keyed.Keyed, Image.names_of, Image.ListsHeld, Objects.IsObjectAt, Objects.IsReadable, Objects.name_in, Objects.value_in, Objects.value_words_at, Objects.node_read, Reading.key_of}
+use Rattle.nmgc_image.specs.{declared.image.Entry.Entry, declared.image.ImageMutator.ImageMutator, declared.heap_image.Keyed.Keyed, Image.names_of, Image.ListsHeld, Image.entry_words, Printing.printed, Objects.IsObjectAt, Objects.IsReadable, Objects.name_in, Objects.value_in, Objects.value_words_at, Objects.node_read, Reading.is_before, Reading.key_of}
 
 -- an object can be read whole: its header, its words and its values
 pub record IsReadableObject (words : List ℕ) (at : ℕ) : Type 0 where
@@ -36,8 +36,17 @@ pub record IsShownAt (words : List ℕ) (at : ℕ) (entry : Entry) : Type 0 wher
   pub name : entry.name ≡ name_in words at
   pub node : (object : IsObjectAt words at) → entry.node ≡ node_read words at object.header
 
+-- the name comes after the last name, or there is no last name
+abbrev pub comes_after : Option Name → Name → Bool
+comes_after None name = true
+comes_after (Some last) name = is_before last name
+
 -- the objects at these addresses, in order of names
 pub record ListsObjects (words places : List ℕ) (nodes : List Entry) : Type 0 where
   pub ordered : IsInOrder (names_of nodes)
   pub sound : (entry : Entry) → Contains nodes entry → (at : ℕ) × Contains places at × IsShownAt words at entry
   pub complete : (at : ℕ) → Contains places at → Contains (names_of nodes) (name_in words at)
+
+-- the node lines of the objects at these addresses were appended, in order of names
+abbrev pub PrintsObjects : (words places old new : List ℕ) → Type 0
+PrintsObjects words places old new = (nodes : List Entry) × ListsObjects words places nodes × (new ≡ old ++ printed (map entry_words nodes))

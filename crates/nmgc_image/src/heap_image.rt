@@ -1,20 +1,21 @@
-//! The image that shows the heap of a report. An image has no addresses: its objects are in order of names, and each field
-//! that points to an address refers to the name there.
-ghost use Rattle.std.specs.Prelude.{◌≡◌, ◌↔◌, ℕ, ◌≤◌, length, map, slice_get, Some, All, IfOk, IsTrue};
+//! The parts of the image that shows the heap of a report. An image has no addresses: its objects are in order of names, and
+//! each field that points to an address refers to the name there.
+//!
+//! Each object is read from the words and written at once, so no two nodes are in memory at the same time.
+ghost use Rattle.std.specs.Prelude.{◌≡◌, ◌↔◌, ◌++◌, ℕ, ◌≤◌, length, map, slice_get, Some, All, IfOk, IsPermutation, IsTrue, OnOk};
 ghost use Rattle.std.specs.List.Sorted.{IsNonDecreasingBy};
 ghost use Rattle.nmgc_limits.specs.declared.mutators.TheConstants.{REGISTERS};
-ghost use Rattle.nmgc_world_spec.specs.World.{World as WorldOf};
 ghost use Rattle.nmgc_journal.specs.declared.report.MutatorEnd.{MutatorEnd as EndOf};
-ghost use Rattle.nmgc_image.specs.{declared.image.ImageMutator.ImageMutator as ShownOf, declared.heap_image.Keyed.Keyed as KeyedOf, Left.IsLeftAs, Shown.IsReadableObject, Shown.CanShowOwn, Shown.ShowsOwn, Shown.IsKeyed, Shown.ListsObjects, Shown.keyed_at, Image.Shows, Image.ListsHeld};
+ghost use Rattle.nmgc_image.specs.{declared.image.ImageMutator.ImageMutator as ShownOf, declared.heap_image.Keyed.Keyed as KeyedOf, Shown.IsReadableObject, Shown.CanShowOwn, Shown.ShowsOwn, Shown.PrintsObjects, Shown.comes_after, Shown.keyed_at, Image.ListsHeld};
 
 use crate::declared::key;
-use crate::image::{Entry, Held, Image, ImageMutator};
+use crate::image::{Entry, Held, ImageMutator};
 use crate::objects::{name_at, node_at, values_of};
-use crate::places::places_of;
-use crate::reader::is_after;
-use nmgc_journal::{FinalWords, MutatorEnd, Report};
+use crate::reader::is_before;
+use crate::write::push_entry;
+use nmgc_journal::{FinalWords, MutatorEnd};
 use nmgc_lists::{List, NoMemory};
-use nmgc_world_spec::Value;
+use nmgc_world_spec::{Name, Value};
 use std::alloc::Global;
 
 /// An object: its name as a number, and its address.
@@ -24,19 +25,8 @@ pub(crate) struct Keyed {
     pub(crate) at: u32,
 }
 
-/// Returns the image that shows each world that a report's heap represents. Requires a heap as a stop of a run leaves it.
-pub(crate) fn image_of(alloc: Global, report: &Report) -> Result<Image, NoMemory>
-    requires { (w : WorldOf) × IsLeftAs report.now w }
-    ensures { (w : WorldOf) → IsLeftAs report.now w → IfOk result (λ image. Shows w image) }
-{
-    let places = places_of(alloc, report)?;
-    let mutators = mutators_of(alloc, &report.words, report.mutators.items())?;
-    let nodes = nodes_of(alloc, &report.words, &places)?;
-    Ok(Image { mutators, nodes })
-}
-
-// Returns an image's mutators: for each mutator of a report its serial, its queue and its registers that aren't nil.
-fn mutators_of(
+/// Returns an image's mutators: for each mutator of a report its serial, its queue and its registers that aren't nil.
+pub(crate) fn mutators_of(
     alloc: Global,
     words: &FinalWords,
     mutators: &[MutatorEnd],
@@ -90,14 +80,42 @@ fn is_nil(value: Value) -> bool
     matches!(value, Value::Nil)
 }
 
-// Returns the names and nodes of the objects at these addresses, in order of names and each name once.
-fn nodes_of(alloc: Global, words: &FinalWords, places: &[u32]) -> Result<List<Entry>, NoMemory>
-    requires { All (IsReadableObject words.now) places.now }
-    ensures { IfOk result (λ nodes. ListsObjects words.now places.now nodes) }
+/// Appends the node lines of the objects at these addresses, in order of names and each name once. Takes 16 bytes for each
+/// address, and gives them back before the first line is made.
+pub(crate) fn push_objects_at(
+    alloc: Global,
+    out: &mut Vec<u8>,
+    words: &FinalWords,
+    places: Vec<u32>,
+) -> Result<(), NoMemory>
+    requires { All (IsReadableObject words.now) places.items }
+    ensures { OnOk result (PrintsObjects words.now places.items out.old.items out.new.items) }
 {
-    let mut keyed = keyed_of(alloc, words, places)?;
+    let mut places = places;
+    put_in_order(alloc, words, &mut places)?;
+    push_objects(alloc, out, words, &places)
+}
+
+// Puts addresses in the order of the names of the objects there.
+fn put_in_order(alloc: Global, words: &FinalWords, places: &mut Vec<u32>) -> Result<(), NoMemory>
+    requires { All (IsReadableObject words.now) places.old.items }
+    ensures sorted { OnOk result (IsNonDecreasingBy (λ (object : KeyedOf). object.key) (map (keyed_at words.now) places.new.items)) }
+    ensures same { OnOk result (IsPermutation places.old.items places.new.items) }
+{
+    let mut keyed = keyed_of(alloc, words, places.as_slice())?;
     keyed.sort_unstable_by_key(|object| object.key);
-    entries_of(alloc, words, &keyed)
+    places.clear();
+    push_places(places, &keyed)
+}
+
+// Appends the objects' addresses.
+fn push_places(places: &mut Vec<u32>, keyed: &[Keyed]) -> Result<(), NoMemory>
+    ensures { OnOk result (places.new.items ≡ places.old.items ++ map (λ (object : KeyedOf). object.at) keyed.now) }
+{
+    for object in keyed {
+        places.push(object.at)?;
+    }
+    Ok(())
 }
 
 // Returns each of these addresses with the name of the object there, as a number.
@@ -105,7 +123,7 @@ fn keyed_of(alloc: Global, words: &FinalWords, places: &[u32]) -> Result<Vec<Key
     requires { All (IsReadableObject words.now) places.now }
     ensures { IfOk result (λ keyed. keyed.items ≡ map (keyed_at words.now) places.now) }
 {
-    let mut keyed = Vec::new(alloc);
+    let mut keyed = Vec::with_capacity(alloc, places.len())?;
     for at in places {
         let key = key(name_at(words, *at));
         keyed.push(Keyed { key, at: *at })?;
@@ -113,20 +131,36 @@ fn keyed_of(alloc: Global, words: &FinalWords, places: &[u32]) -> Result<Vec<Key
     Ok(keyed)
 }
 
-// Returns the names and nodes of the objects in `keyed`, each name once. Requires that `keyed` is in order of names.
-fn entries_of(alloc: Global, words: &FinalWords, keyed: &[Keyed]) -> Result<List<Entry>, NoMemory>
-    requires sorted { IsNonDecreasingBy (λ (object : KeyedOf). object.key) keyed.now }
-    requires keyed { All (IsKeyed words.now) keyed.now }
-    ensures { IfOk result (λ nodes. ListsObjects words.now (map (λ (object : KeyedOf). object.at) keyed.now) nodes) }
+// Appends the node lines of the objects at these addresses, each name once. Requires that they are in order of names.
+fn push_objects(
+    alloc: Global,
+    out: &mut Vec<u8>,
+    words: &FinalWords,
+    places: &[u32],
+) -> Result<(), NoMemory>
+    requires sorted { IsNonDecreasingBy (λ (object : KeyedOf). object.key) (map (keyed_at words.now) places.now) }
+    requires readable { All (IsReadableObject words.now) places.now }
+    ensures { OnOk result (PrintsObjects words.now places.now out.old.items out.new.items) }
 {
-    let mut nodes = List::new(alloc);
+    let mut last = None;
     let mut buffer = Vec::new(alloc);
-    for object in keyed {
-        let name = name_at(words, object.at);
-        if is_after(nodes.items(), name) {
-            let node = node_at(alloc, words, object.at, &mut buffer)?;
-            nodes.push(Entry { name, node })?;
+    for at in places {
+        let name = name_at(words, *at);
+        if comes_after(last, name) {
+            let node = node_at(alloc, words, *at, &mut buffer)?;
+            push_entry(out, &Entry { name, node })?;
+            last = Some(name);
         }
     }
-    Ok(nodes)
+    Ok(())
+}
+
+// Whether a name comes after the last name. True if there is no last name.
+fn comes_after(last: Option<Name>, name: Name) -> bool
+    ensures { result ≡ comes_after last name }
+{
+    match last {
+        Some(last) => is_before(last, name),
+        None => true,
+    }
 }

@@ -9,8 +9,8 @@
 //!   `plain`: constructors' node lines, in one pass. `declared`: which names have node lines; `known`: which names count as
 //!   declared meanwhile. `reader`: the content of the lines read, and the next line. `fault`: why an image can't be read.
 //! - `laws`: laws of images.
-//! - `write`: the text of an image, and of the image that shows a report's heap. `heap_image`: the image of a heap. `places`,
-//!   `search`: the addresses of its objects. `objects`: objects read from words.
+//! - `write`: the text of an image, and of the image that shows a report's heap. `heap_image`: its mutators and node lines.
+//!   `places`, `search`: the addresses of its objects. `objects`: objects read from words.
 #![tactic(auto)]
 
 mod declared;

@@ -13,7 +13,7 @@ use crate::text::Lines;
 use std::alloc::Global;
 
 /// The most bytes of an image that the program reads.
-pub const MAX_IMAGE_BYTES: usize = 268_435_456;
+pub const MAX_IMAGE_BYTES: usize = 2_147_483_648;
 
 const _: () = prove!(MAX_IMAGE_BYTES <= 1 << 31);
 

@@ -341,8 +341,8 @@ fn with_queue_entry(own: ImageMutator, value: Value) -> Result<ImageMutator, NoM
     })
 }
 
-/// Whether a name comes after the name of the last of these objects. True if there are none.
-pub(crate) fn is_after(nodes: &[Entry], name: Name) -> bool
+// Whether a name comes after the name of the last of these objects. True if there are none.
+fn is_after(nodes: &[Entry], name: Name) -> bool
     ensures { result ≡ is_after nodes.now name }
 {
     match nodes {
@@ -351,8 +351,8 @@ pub(crate) fn is_after(nodes: &[Entry], name: Name) -> bool
     }
 }
 
-// Whether the name `a` is before the name `b`: by their makers, and for the same maker by their serials.
-fn is_before(a: Name, b: Name) -> bool
+/// Whether the name `a` is before the name `b`: by their makers, and for the same maker by their serials.
+pub(crate) fn is_before(a: Name, b: Name) -> bool
     ensures { result ≡ is_before a b }
 {
     a.maker < b.maker || (a.maker == b.maker && a.serial < b.serial)

@@ -1,5 +1,5 @@
 //! The text of an image. It is appended line by line, so no line is built separately and no piece is moved.
-ghost use Rattle.std.specs.Prelude.{◌≡◌, ◌∷◌, [], ◌++◌, map, IfOk, OnOk};
+ghost use Rattle.std.specs.Prelude.{◌≡◌, ◌∷◌, [], ◌++◌, length, map, IfOk, OnOk};
 ghost use Rattle.nmgc_journal.specs.Text.{value_text};
 ghost use Rattle.nmgc_world_spec.specs.World.{World as WorldOf};
 ghost use Rattle.nmgc_io.specs.{Spaced.after_spaces, Text.spaced};
@@ -7,8 +7,9 @@ ghost use Rattle.nmgc_image.specs.{declared.image.Image.Image as ImageOf, Left.I
 ghost use Rattle.nmgc_image.specs.Image.{Spells, mutator_words, register_words, queue_words, node_words, entry_words, mutator_lines, Shows};
 ghost use Rattle.nmgc_image.specs.Printing.{image_text, first_words, own_lines};
 
-use crate::heap_image::image_of;
+use crate::heap_image::{mutators_of, push_objects_at};
 use crate::image::{Entry, Held, Image, ImageMutator};
+use crate::places::places_of;
 use nmgc_io::push_number;
 use nmgc_journal::{Report, push_name, push_value};
 use nmgc_lists::NoMemory;
@@ -18,13 +19,18 @@ use std::alloc::Global;
 /// Returns the text of the image that shows the heap of a report: the mutators' registers and queues, and the objects in the
 /// wide reach. The image shows each world that the heap represents. Requires a heap as a stop of a run leaves it. Takes time
 /// proportional to heap and text, for a sort of the objects by name and, with weak pointers, for a look-up of a name for each
-/// block in use. Takes memory for the image, the text, a byte for each word of the heap and 24 bytes for each object.
+/// block in use. Takes memory for the text, a byte for each word of the heap, 24 bytes for each object, registers and queues.
 pub fn write_image(alloc: Global, report: &Report) -> Result<Vec<u8>, NoMemory>
     requires { (w : WorldOf) × IsLeftAs report.now w }
     ensures { IfOk result (λ text. (w : WorldOf) → IsLeftAs report.now w → (image : ImageOf) × Shows w image × Spells text.items image) }
 {
-    let image = image_of(alloc, report)?;
-    image_text(alloc, &image)
+    let places = places_of(alloc, report)?;
+    let mutators = mutators_of(alloc, &report.words, report.mutators.items())?;
+    let mut out = Vec::new(alloc);
+    push_start(&mut out, mutators.items())?;
+    push_objects_at(alloc, &mut out, &report.words, places)?;
+    push_text(&mut out, b"end\n")?;
+    Ok(out)
 }
 
 /// Returns the text of any image. Takes memory only for the text, which grows by doubling, and time proportional to the text.
@@ -45,6 +51,14 @@ fn push_text(out: &mut Vec<u8>, text: &[u8]) -> Result<(), NoMemory>
 {
     out.extend_from_slice(text)?;
     Ok(())
+}
+
+// Appends the lines before the node lines: the first line and the lines of the mutators.
+fn push_start(out: &mut Vec<u8>, mutators: &[ImageMutator]) -> Result<(), NoMemory>
+    ensures { OnOk result (out.new.items ≡ (out.old.items ++ (spaced (first_words (length mutators.now)) ++ 10 ∷ [])) ++ printed (mutator_lines 0 mutators.now)) }
+{
+    push_first(out, mutators.len())?;
+    push_mutators(out, mutators)
 }
 
 // Appends the first line, with the number of mutators.
@@ -133,8 +147,8 @@ fn push_nodes(out: &mut Vec<u8>, nodes: &[Entry]) -> Result<(), NoMemory>
     Ok(())
 }
 
-// Appends the node line of an object.
-fn push_entry(out: &mut Vec<u8>, entry: &Entry) -> Result<(), NoMemory>
+/// Appends the node line of an object.
+pub(crate) fn push_entry(out: &mut Vec<u8>, entry: &Entry) -> Result<(), NoMemory>
     ensures { OnOk result (out.new.items ≡ out.old.items ++ (spaced (entry_words entry.now) ++ 10 ∷ [])) }
 {
     push_text(out, b"node ")?;

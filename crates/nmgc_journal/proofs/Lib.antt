@@ -1,4 +1,5 @@
 pub mod Buffers
+pub mod Crossing
 pub mod Ended
 pub mod Read
 mod Vocabulary

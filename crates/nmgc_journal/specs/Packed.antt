@@ -1,6 +1,5 @@
 -- Packed parts of a report: the words of the heap that is left, and replies of a word each.
 use Rattle.std.specs.Prelude.{List, [], if◌then◌else◌, map, slice_index_or, ℕ, ◌%◌, ◌/◌, ◌==◌, ◌^◌, ◌∷◌}
-use Rattle.std.specs.Slots.{slots_items}
 use Rattle.nmgc_world_spec.specs.declared.command.Reply.TheVariants.{Already, Dead, Fine, Fixed, Given, No, NoField, NoPointer, NotOwner, Nothing, StackEmpty, StackFull, Updated, WrongKind, Yes}
 use Rattle.nmgc_world_spec.specs.{declared.command.Reply.Reply, declared.value.Name.Name, declared.value.Value.TheVariants.Nil, declared.value.Value.TheVariants.Number, declared.value.Value.TheVariants.Ref}
 use Rattle.nmgc_journal.specs.{declared.final_words.Storage.Storage, declared.final_words.Storage.TheVariants.Table, declared.final_words.Storage.TheVariants.Vector, declared.replies.Form.Form, declared.replies.Form.TheVariants.Halves, declared.replies.Form.TheVariants.Packed, declared.replies.Form.TheVariants.Whole}
@@ -8,7 +7,7 @@ use Rattle.nmgc_journal.specs.{declared.final_words.Storage.Storage, declared.fi
 -- final words: the words in order, in a vector or in a closed table
 abbrev pub words_of : Storage → List ℕ
 words_of (Vector words) = words.items
-words_of (Table full) = slots_items full.closed.words
+words_of (Table words) = words
 
 -- the plain replies: the fifteen that give neither a number nor an object, each at its position, from 0
 abbrev pub plain_replies : List Reply

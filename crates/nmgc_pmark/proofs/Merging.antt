@@ -1,5 +1,5 @@
 -- The names of all claims, put in order.
-use Rattle.std.proofs.{Common.ℕ, Common.suc, Common.◌≡◌, Common.◌∙◌, Common.inl, Common.inr, Common.refl, Common.sym, Common.subst, Common.arith, Common.List, Common.[], Common.◌∷◌, Common.◌++◌, Common.Some, lemmas.Option.slice_get_within, lemmas.Option.get_or_from_slice_get, lemmas.List.Elements.Contains-append_cases}
+use Rattle.std.proofs.{Common.ℕ, Common.suc, Common.◌≡◌, Common.inl, Common.inr, Common.refl, Common.sym, Common.subst, Common.arith, Common.List, Common.[], Common.◌∷◌, Common.◌++◌, Common.Some, lemmas.Option.slice_get_within, lemmas.Option.get_or_from_slice_get, lemmas.List.Elements.Contains-append_cases}
 use Rattle.std.specs.{Prelude.Contains, Prelude.slice_get, List.flat_map, List.Sorted.IsPermutation}
 use Rattle.nmgc_world_spec.specs.{declared.value.Name.Name, declared.value.Value.Value, World.World, Reach.IsBefore, Reach.IsInOrder, Reach.Lists, laws.Orders.before_trans, laws.Orders.not_before_itself as never_before}
 use Rattle.nmgc_lists.specs.laws.Items.{contains_head, contains_tail, contains_cases, place_of, contains_flat, flat_contains}

@@ -1,10 +1,10 @@
 -- The effects of trying to claim, and the facts that it keeps.
-use Rattle.std.proofs.{Common.◌≡◌, Common.◌≢◌, Common.◌<◌, Common.◌≤◌, Common.◌+◌, Common.◌-◌, Common.◌*◌, Common.◌%◌, Common.ℕ, Common.zero, Common.suc, Common.true, Common.false, Common.List, Common.[], Common.◌∷◌, Common.◌++◌, Common.length, Common.inl, Common.inr, Common.refl, Common.sym, Common.ap, Common.subst, Common.◌∙◌, Common.arith, Common.◌⊎◌, Common.append_assoc, Common.append-nil, Common.length-append, lemmas.Bool.cases_eq, lemmas.List.length-map, lemmas.List.Elements.Contains-append_left, lemmas.List.Elements.Contains-push, lemmas.List.Elements.Contains-push_cases}
+use Rattle.std.proofs.{Common.◌≡◌, Common.◌≢◌, Common.◌<◌, Common.◌≤◌, Common.◌+◌, Common.◌*◌, Common.◌%◌, Common.ℕ, Common.zero, Common.suc, Common.true, Common.false, Common.List, Common.[], Common.◌∷◌, Common.◌++◌, Common.length, Common.inl, Common.inr, Common.refl, Common.sym, Common.ap, Common.subst, Common.◌∙◌, Common.arith, Common.◌⊎◌, Common.append_assoc, Common.append-nil, Common.length-append, lemmas.Bool.cases_eq, lemmas.List.length-map, lemmas.List.Elements.Contains-append_left, lemmas.List.Elements.Contains-push, lemmas.List.Elements.Contains-push_cases}
 use Rattle.std.specs.Prelude.{Contains, slice_index}
 use Rattle.nmgc_lists.specs.laws.Items.{contains_head, contains_tail, contains_cases, nothing_in as nothing}
 use Rattle.nmgc_object.specs.{declared.words.Address.Address, declared.layout.TheConstants.FIRST_PLACE}
 use Rattle.nmgc_stop_spec.specs.Strong.{IsAmong}
-use Rattle.nmgc_pmark.specs.{declared.table.ClaimTable.ClaimTable, declared.marker.Marker.Marker, Rule.IsMarker, Seat.seen, Seat.bounds_of, Seat.IsAt, Found.block_index, Found.blocks_of, Marker.AreDistinct, Marker.part_of, Marker.IsSound, Marker.IsTaken, Marker.HasTried, Marker.IsOwnStart, View.Part, View.ClaimsSeen, View.claiming, View.first_changed, View.tried, View.claimed_in, View.claimed_by}
+use Rattle.nmgc_pmark.specs.{declared.table.ClaimTable.ClaimTable, declared.marker.Marker.Marker, Seat.seen, Seat.bounds_of, Seat.IsAt, Found.block_index, Found.blocks_of, Marker.AreDistinct, Marker.IsSound, Marker.IsTaken, Marker.HasTried, Marker.IsOwnStart, View.Part, View.ClaimsSeen, View.claiming, View.first_changed, View.tried, View.claimed_in, View.claimed_by}
 
 -- numbers without doubles
 

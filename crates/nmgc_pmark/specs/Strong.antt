@@ -1,5 +1,5 @@
 -- Strong reach from the mutators' values, which several markers claim.
-use Rattle.std.specs.Prelude.{◌+◌, List, ◌++◌, ◌≡◌, ◌↔◌, ◌⊎◌, Contains, ◌≢◌}
+use Rattle.std.specs.Prelude.{List, ◌++◌, ◌≡◌, ◌↔◌, ◌⊎◌, Contains, ◌≢◌}
 use Rattle.std.specs.List.{flat_map}
 use Rattle.nmgc_world_spec.specs.{declared.mutator_state.MutatorState.MutatorState, declared.value.Value.Value, World.World, World.shared_name, declared.value.Name.Name, declared.value.Value.TheVariants.Ref, Reach.IsReached, Known.IsWorld}
 use Rattle.nmgc_run_spec.specs.Terms.{IsStrongObject}
