@@ -8,6 +8,7 @@ pub mod Heaps
 pub mod Joins
 pub mod Keeps
 pub mod Leaving
+pub mod Longer
 pub mod Marker
 pub mod Owed
 pub mod Prepares

@@ -1,5 +1,6 @@
 pub mod Common
 pub mod Gathered
+pub mod Longer
 pub mod Openings
 pub mod Placed
 pub mod Reading

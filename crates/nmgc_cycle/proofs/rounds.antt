@@ -1,5 +1,8 @@
 pub mod AfterRound
+pub mod AskedParts
 pub mod Asking
+pub mod Continuing
+pub mod FollowedLeft
 pub mod Gathering
 pub mod GoneOn
 pub mod Helping
@@ -8,13 +11,14 @@ pub mod InboxRoom
 pub mod KeptAfter
 pub mod Lining
 pub mod ListedLeft
+pub mod ListedRounds
+pub mod LongerRuns
 pub mod MarkedBeside
 pub mod Meeting
 pub mod NoneLeft
 pub mod Opened
 pub mod Over
 pub mod OwnRows
-pub mod Parts
 pub mod Played
 pub mod Positions
 pub mod Ran
@@ -25,10 +29,12 @@ pub mod Resting
 pub mod RoundOver
 pub mod RoundWorked
 pub mod Rounded
+pub mod RunSoFar
 pub mod SliceRoom
 pub mod SliceRule
 pub mod Sliced
 pub mod Slicing
+pub mod SoFar
 pub mod SweptBeside
 pub mod Taking
 pub mod WhatIsLeft

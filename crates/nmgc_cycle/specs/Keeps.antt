@@ -8,7 +8,7 @@ use Rattle.nmgc_script.specs.declared.script.Script.{Script}
 use Rattle.nmgc_journal.specs.{declared.report.End.End, declared.report.End.TheVariants.Done, declared.report.End.TheVariants.HeapFull}
 use Rattle.nmgc_run_spec.specs.{Run.State, Run.Progress, Run.idle, Run.marking, Run.sweeping, Run.plan_of, Run.layout_of, Run.Run, Run.Turn, Run.last_state, AfterRound.with_turn}
 use Rattle.nmgc_stop_spec.specs.Cycle.{Cycle}
-use Rattle.nmgc_run_laws.specs.Statements.{answered_count}
+use Rattle.nmgc_run_laws.specs.{Sound.HasBlocks, Statements.answered_count}
 use Rattle.nmgc_collector_laws.specs.Collector.{IsNew, IsAtStop, IsAfterRound}
 use Rattle.nmgc_cycle.specs.{declared.collector.Collector.Collector, declared.stop.StopEnd.StopEnd, Bound.AreFewAtStop, Bound.AreFewBeforeStop, Lined.IsLined, Shown.seen, Shown.sweeper_in}
 use Rattle.nmgc_cycle.specs.declared.stop.StopEnd.TheVariants as answer
@@ -103,6 +103,11 @@ HasAnswered script c (answer.HeapFull free reserve) = HasStopped script c × (c.
 abbrev pub StopsAfter : Script → Collector → Collector → Type 0
 StopsAfter script old new = (w : HasWorked script old) → (turn : Turn) × (turn.replies ≡ record { replies = w.replies }) ×
     (turn.worked ≡ w.worked) × (turn.history ≡ w.history) × IsAfterStop script new (with_turn w.run turn)
+
+-- the third sentence of the headline, at every stop: each tracked name of the run's world except g has a block. So nothing that
+-- a register, a slot of g, a queue, a field or a live weak pointer can still reach was freed
+abbrev pub NothingReachableIsFreed : Script → Collector → Type 0
+NothingReachableIsFreed script c = (run : Run) → IsAfterStop script c run → HasBlocks (last_state run)
 
 -- the collector's run has ended with this end
 abbrev pub HasEnded : Script → Collector → End → Type 0

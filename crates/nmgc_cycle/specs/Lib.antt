@@ -1,3 +1,4 @@
+pub mod Asking
 pub mod Bound
 pub mod Cycles
 pub mod Full
@@ -5,6 +6,7 @@ pub mod FullLaws
 pub mod Keeps
 pub mod Lined
 pub mod Listed
+pub mod Programs
 pub mod Roots
 pub mod RoundLaws
 pub mod Shown

@@ -1,14 +1,14 @@
 -- The slices of a round: the work of a mutator with its seat, and the state after all slices.
-use Rattle.std.specs.Prelude.{ℕ, ◌≡◌, ◌||◌, Bool, true, false, ◌+◌, ◌*◌, ◌<◌, ◌≤◌, List, [], ◌++◌, length, map, drop, take, min, All, slice_get, slice_index, slice_index_or, Some, vec_capacity}
+use Rattle.std.specs.Prelude.{ℕ, ◌≡◌, ◌||◌, Bool, true, false, ◌+◌, ◌*◌, ◌<◌, ◌≤◌, List, [], ◌++◌, length, map, drop, take, slice_get, slice_index, slice_index_or, Some, vec_capacity}
 use Rattle.std.specs.{Int.div_ceil, List.zip}
-use Rattle.nmgc_world_spec.specs.{declared.command.Command.Command, declared.command.Reply.Reply, World.Fits}
+use Rattle.nmgc_world_spec.specs.{declared.command.Command.Command, declared.command.Reply.Reply}
 use Rattle.nmgc_alloc.specs.Segments.{IsSegments}
 use Rattle.nmgc_collector_laws.specs.{Owed.IsGathered, Owed.HaveOwed, Owed.gathered, RestMarking.opening_beside, Rest.opening_at, Worked.Done, Collector.IsMarking}
 use Rattle.nmgc_heap_spec.specs.Objects.{Place}
 use Rattle.nmgc_round.specs.{declared.table.Round.Round, View.Opening, View.Scan, View.whole, Seat.RoundSeat, Seat.seen, Seating.collecting, Finishing.Leaves, Gate.passed}
-use Rattle.nmgc_mutator.specs.{declared.mutator.TheConstants.MOST_PUSHED, declared.mutator.Mutator.Mutator, declared.mutator.SliceEnd.SliceEnd, Does.SameLine, Ready.IsReady, Ready.Reserves, Slice.HasRoom, Slice.HasRun, Slice.Ended, Slice.tried}
+use Rattle.nmgc_mutator.specs.{declared.mutator.TheConstants.MOST_PUSHED, declared.mutator.Mutator.Mutator, declared.mutator.SliceEnd.SliceEnd, Does.SameLine, Ready.Reserves, Slice.HasRun, Slice.Ended, Slice.tried}
 use Rattle.nmgc_mutator.specs.declared.mutator.SliceEnd.TheVariants as ending
-use Rattle.nmgc_updrem.specs.{Rings.HavePolled, Rings.Receiver, declared.block.TheConstants.BLOCK_ENTRIES}
+use Rattle.nmgc_updrem.specs.{Rings.HavePolled, declared.block.TheConstants.BLOCK_ENTRIES}
 use Rattle.nmgc_script.specs.declared.script.Script.{Script}
 use Rattle.nmgc_run_spec.specs.{Run.Run, Run.last_state, Run.slice_of, Run.is_collect, Run.is_full, Run.State, Run.Progress, Run.marking, AfterRound.program_of, Terms.some_asks}
 use Rattle.nmgc_cycle.specs.{declared.collector.Collector.Collector, declared.round.Lists.Lists, declared.worker.Worker.Worker, Cycles.HasHelped, Keeps.IsAfterStop, Shown.seen as collector_seen}
@@ -17,12 +17,6 @@ use Rattle.nmgc_cycle.specs.{declared.collector.Collector.Collector, declared.ro
 abbrev pub left_at : Script → List ℕ → ℕ → List Command
 left_at script positions k = drop (slice_index positions k) (program_of script.threads k)
 
--- a mutator with its seat may do its slice of these commands
-pub record CanWork (round : Round) (slice : ℕ) (program : List Command) (worker : Worker) : Type 0 where
-  pub ready : IsReady round worker.seat worker.mutator
-  pub program_is : All (Fits worker.mutator.layout.words) program
-  pub room : HasRoom worker.mutator (min slice (length program))
-
 -- a mutator did its slice of these commands, and counted a pass of the gate for each command that it tried
 pub record HasWorkedOn (round : Round) (slice : ℕ) (program : List Command) (old new : Worker) : Type 0 where
   pub run : HasRun round (seen old.seat) new.seat old.mutator new.mutator (take new.done program)
@@ -30,31 +24,11 @@ pub record HasWorkedOn (round : Round) (slice : ℕ) (program : List Command) (o
   pub turns : new.mutator.turns ≡ passed old.mutator.turns (tried new.done new.end)
   pub most : new.done ≤ slice
 
--- each worker may do its slice of the commands left
-pub record CanAllWork (round : Round) (script : Script) (positions : List ℕ) (workers : List Worker) : Type 0 where
-  pub threads_are : length script.threads ≡ length workers
-  pub positions_are : length positions ≡ length workers
-  pub within : (k : ℕ) → k < length workers → slice_index positions k ≤ length (program_of script.threads k)
-  pub each : (k : ℕ) (d : Worker) → k < length workers → CanWork round script.config.slice (left_at script positions k) (slice_index_or workers k d)
-
 -- each worker did its slice of the commands left
 pub record HaveAllWorked (round : Round) (script : Script) (positions : List ℕ) (old new : List Worker) : Type 0 where
   pub count : length new ≡ length old
   pub each : (k : ℕ) (d : Worker) → k < length old →
       HasWorkedOn round script.config.slice (left_at script positions k) (slice_index_or old k d) (slice_index_or new k d)
-
--- each worker from number `from` on may do its slice (`CanWorkFrom`), and did it (`HaveWorkedFrom`)
-pub record CanWorkFrom (round : Round) (script : Script) (positions : List ℕ) (from : ℕ) (workers : List Worker) : Type 0 where
-  pub threads_are : from + length workers ≤ length script.threads
-  pub positions_are : from + length workers ≤ length positions
-  pub within : (k : ℕ) → k < length workers → slice_index positions (from + k) ≤ length (program_of script.threads (from + k))
-  pub each : (k : ℕ) (d : Worker) → k < length workers →
-      CanWork round script.config.slice (left_at script positions (from + k)) (slice_index_or workers k d)
-
-pub record HaveWorkedFrom (round : Round) (script : Script) (positions : List ℕ) (from : ℕ) (old new : List Worker) : Type 0 where
-  pub count : length new ≡ length old
-  pub each : (k : ℕ) (d : Worker) → k < length old →
-      HasWorkedOn round script.config.slice (left_at script positions (from + k)) (slice_index_or old k d) (slice_index_or new k d)
 
 -- whether a slice that ended so asks for a cycle (`is_asking`); whether it asks for a full cycle (`is_asking_full`)
 abbrev pub is_asking : SliceEnd → Bool
@@ -102,19 +76,9 @@ pub record HasLists (count : ℕ) (m : Mutator) : Type 0 where
   pub young_weaks : count ≤ m.young_weaks.spare
   pub finalised : count ≤ m.finalised.spare
 
--- each mutator has room for its next slice
-abbrev pub HaveSliceRoom : Script → Collector → Type 0
-HaveSliceRoom script c = (k : ℕ) (m : Mutator) → slice_get c.mutators.items k ≡ Some m →
-    HasRoom m (min script.config.slice (length (left_at script c.positions.items k)))
-
 -- a number of entries, rounded up to whole blocks
 abbrev pub in_blocks : ℕ → ℕ
 in_blocks entries = div_ceil entries BLOCK_ENTRIES * BLOCK_ENTRIES
-
--- room in the inbox for each mutator's next slice: for the most entries that its commands push, in whole blocks
-abbrev pub HasInboxRoom : Script → List ℕ → List Receiver → Type 0
-HasInboxRoom script positions inbox = (k : ℕ) (r : Receiver) → slice_get inbox k ≡ Some r →
-    in_blocks (MOST_PUSHED * min script.config.slice (length (left_at script positions k))) ≤ r.taken.spare
 
 -- mutators changed only in the room of their lists
 pub record AreReserved (old new : List Mutator) : Type 0 where

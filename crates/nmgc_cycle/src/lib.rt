@@ -3,7 +3,8 @@
 //! A run is a stop, and then rounds, each with a stop after it. In a round each mutator does a slice of its program in a
 //! thread of its own, and the collector works beside them. One table of words lasts for the whole run. At a stop no mutator
 //! runs: objects are promoted into segments, the cycle advances, and the stop's row is written (Note [The steps of a stop] in
-//! stop.rt). `Collector::run` does a whole run; `new`, `stop`, `round` and `into_report` are its parts.
+//! stop.rt). `Collector::run` does a whole run; `new`, `stop`, `round` and `into_report` are its parts. `run_programs` does a
+//! run of programs that decide (`programs`), with `stop_programs` and `round_programs`. A script's programs are lists.
 //!
 //! The invariant of a collector between calls is in `specs/Keeps.antt`. The collector's rows describe one run of the script,
 //! as `nmgc_run_spec` defines runs, and its words, segments, mutators, marker and sweeper represent the last state of this
@@ -20,10 +21,12 @@
 //! the words are taken, or after they are back. After `NoMemory` no clause describes the collector, and no call may follow.
 #![tactic(auto)]
 
+mod asking;
 mod collector;
 mod cycle;
 mod full;
 mod name_notes;
+mod programs;
 mod progress;
 mod round;
 mod round_laws;

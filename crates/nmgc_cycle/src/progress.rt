@@ -86,7 +86,7 @@ impl Progress {
     }
 
     /// Does the collector's part of a round. If a cycle is in progress, it scans objects or sweeps segments, up to the
-    /// script's quota, and fewer only if no more are left. Before each object it polls the ring of each mutator. The marker's
+    /// configured quota, and fewer only if no more are left. Before each object it polls the ring of each mutator. The marker's
     /// answer is kept for the stop. Takes no memory. It waits for the gate, and for a sweep's second thread, which waits for
     /// the gate alone.
     pub fn work<R: Threads + Sync, G: Gate>(
@@ -99,11 +99,11 @@ impl Progress {
     )
         requires help { CanHelp inputs.now.round.now seat.old segments.old names.now self.old }
         requires inbox { segments.old.layout.mutators ≤ length inbox.old }
-        ensures helped { HasHelped inputs.now.round.now inputs.now.script.now.config.quota seat.old seat.new segments.old segments.new names.now self.old
+        ensures helped { HasHelped inputs.now.round.now inputs.now.config.now.quota seat.old seat.new segments.old segments.new names.now self.old
             self.new }
         ensures polled { HavePolled inbox.old inbox.new }
     {
-        let quota = inputs.script.config.quota;
+        let quota = inputs.config.quota;
         match self {
             Progress::Idle => {}
             Progress::Marking(marking) => {

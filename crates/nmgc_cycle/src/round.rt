@@ -1,43 +1,47 @@
 //! A round: each mutator with commands left does a slice of its program, in a thread of its own. Beside them the collector
-//! marks or sweeps, if a cycle is in progress, in a thread too.
+//! marks or sweeps, if a cycle is in progress, in a thread too. A round asks programs (`round_programs`). The programs of a
+//! script are lists (`round`).
 //!
 //! First comes all that can fail: room for replies and notes, and the lists of the round's seats. The room for the workers
 //! lasts for the run. Then the words go into the round and come back from it, and nothing in between can fail. Only then are
 //! the replies taken off the mutators, for the report.
 //!
-//! The opening of the round, with the world that the words represent, exists in proofs alone (`Witness`). It is the last
-//! state of the run that the collector's rows describe. While a cycle marks, it also has the marking machine to which the
+//! The opening of the round, with the world that the words represent, exists in proofs alone (`Witness`). So does the script
+//! of the run so far, which has no further commands than each program's next one (`specs/Programs.antt`). The opening is the
+//! last state of the run that the collector's rows describe. While a cycle marks, it also has the marking machine to which the
 //! marker is tied (`OpensAt`). The round's `marking` is true then, since only then do mutators owe overwritten references.
 //!
 //! Commands, replies and worlds don't depend on the collector: it writes only marks and segments that wait. While a cycle
 //! marks, only scans add marks. While it sweeps, a swept segment loses only the names that were freed.
 //!
-//! Easy to get wrong: a request for a cycle or a full one lasts until a stop grants it, so a round may only add requests.
+//! Easy to get wrong: a request for a cycle or a full one lasts until a stop grants it, so a round may only add requests. And
+//! the opening is chosen for the script before the round, but the round belongs to the longer script's run too. The opening
+//! depends only on the world, the places and the marking machine, which are the same for both scripts.
 ghost use Rattle.std.specs.Prelude.{ℕ, ◌≡◌, ◌||◌, ◌<◌, ◌≤◌, ◌+◌, ◌^◌, [], ◌∷◌, ◌++◌, true, None, Some, IfOk, OnOk, length, map, min, slice_get, slice_index, slice_index_or};
 ghost use Rattle.std.specs.List.{list_any};
 ghost use Rattle.nmgc_alloc.specs.Segments.{IsSegments};
 ghost use Rattle.nmgc_round.specs.Gate.{passed};
 ghost use Rattle.nmgc_mutator.specs.declared.mutator.Mutator.{Mutator as MutatorSeen};
-ghost use Rattle.nmgc_run_spec.specs.AfterRound.{program_of};
 ghost use Rattle.nmgc_limits.specs.{Limits.most_slice, declared.mutators.TheConstants.MAKERS};
 ghost use Rattle.nmgc_updrem.specs.{Lines.HasMetSo, Rings.AtLine, Rings.HavePolled};
 ghost use Rattle.nmgc_script.specs.Spelling.{IsInLimits};
 ghost use Rattle.nmgc_cycle.specs.{Lined.IsLined, Lined.HasMetSender, Lined.HaveLines, Lined.HaveMet, Lined.RememberInOrder, Keeps.HasStopped, Keeps.DidRound, Cycles.CanHelp, Cycles.HasHelped, Cycles.worked_on, Cycles.upper_worked_on, Shown.is_marking_in, Shown.turns_of, Shown.upper_turns_of};
-ghost use Rattle.nmgc_cycle.specs.Working.{left_at, HaveRoom, HasLists, HaveSliceRoom, HasInboxRoom, AreReserved, CanAllWork, HaveAllWorked, OpensAt, DidSlices, HaveTried, asks_of, asks_full_of, done_by, cleared, replies_of};
+ghost use Rattle.nmgc_cycle.specs.Working.{HaveRoom, HasLists, AreReserved, OpensAt, HaveTried, asks_of, asks_full_of, done_by, cleared, replies_of};
+ghost use Rattle.nmgc_cycle.specs.{Asking.CanAskAll, Programs.AreListed, Programs.CanContinue, Programs.DidAsk, Programs.DidAskSlices, Programs.GaveSome, Programs.HasAskInbox, Programs.HaveAskRoom, Programs.HaveWorkedAsAsked, Programs.MayBeAsked, Programs.most_at};
 
 use crate::Collector;
+use crate::asking::ask_beside;
 use crate::cycle::segments_are_sound;
 use crate::round_laws::{a_round_leads, slices_lead};
-use crate::worker::{
-    RoundInputs, Worker, seat_all, some_ask_full, some_asks, unseat_all, work_beside,
-};
+use crate::worker::{RoundInputs, Worker, seat_all, some_ask_full, some_asks, unseat_all};
 use nmgc_journal::{Replies, RoundRows};
 use nmgc_limits::MAKERS;
 use nmgc_lists::{List, ListMemory, NoMemory};
 use nmgc_mutator::mutator::{MOST_PUSHED, Mutator};
+use nmgc_mutator::{Listed, Program};
 use nmgc_round::witness::WitnessFor;
 use nmgc_round::{CollectorSeat, Finished, Gate, MutatorSeat, Opened, Round, Started, Witness};
-use nmgc_script::Script;
+use nmgc_script::{Config, Script};
 use nmgc_updrem::{BLOCK_ENTRIES, Inbox};
 use std::alloc::Global;
 use std::mem;
@@ -71,18 +75,55 @@ impl Lists {
 // The opening of the round after a stop.
 struct AfterStop;
 
-impl<'a> WitnessFor<(&'a Script, &'a Collector), Opened> for AfterStop {
+impl<'a> WitnessFor<(&'a Witness<Script>, &'a Collector), Opened> for AfterStop {
     ghost use Rattle.nmgc_cycle.specs.Working.{OpensAt};
 
-    ghost wanted = { λ about o. OpensAt about.0.now about.1.now o };
+    ghost wanted = { λ about o. OpensAt about.0.now.value about.1.now o };
 }
 
 // Returns the opening of the round that follows the last stop. Requires that no round followed that stop yet.
-fn opening_of(script: &Script, collector: &Collector) -> Witness<Opened>
-    requires { HasStopped script.now collector.now }
-    ensures { OpensAt script.now collector.now result.value }
+fn opening_of(script: &Witness<Script>, collector: &Collector) -> Witness<Opened>
+    requires { HasStopped script.now.value collector.now }
+    ensures { OpensAt script.now.value collector.now result.value }
 {
-    Witness::of::<(&Script, &Collector), AfterStop>(&(script, collector))
+    Witness::of::<(&Witness<Script>, &Collector), AfterStop>(&(script, collector))
+}
+
+// The script of a run that is known before the run.
+struct KnownBefore;
+
+impl<'a> WitnessFor<&'a Script, Script> for KnownBefore {
+    ghost use Rattle.std.specs.Prelude.{◌≡◌};
+
+    ghost wanted = { λ about script. script ≡ about.now };
+}
+
+/// Returns the name of a script that is known before the run. It has no bytes.
+pub fn known_before(script: &Script) -> Witness<Script>
+    ensures { result.value ≡ script.now }
+{
+    Witness::of::<&Script, KnownBefore>(&script)
+}
+
+// Returns the programs of a script from these positions on, as lists.
+fn listed<'a>(
+    alloc: Global,
+    script: &'a Script,
+    positions: &[u32],
+) -> Result<Vec<Listed<'a>>, NoMemory>
+    requires { length positions.now ≡ length script.now.threads }
+    ensures { IfOk result (λ programs. AreListed script.now positions.now programs.items) }
+{
+    let mut programs = Vec::with_capacity(alloc, positions.len())?;
+    for number in 0..positions.len() {
+        let program = script.threads.items()[number].items();
+        programs.push(Listed {
+            commands: program,
+            position: positions[number] as usize,
+            words: script.config.words,
+        })?;
+    }
+    Ok(programs)
 }
 
 impl Collector {
@@ -120,7 +161,49 @@ impl Collector {
             passed (upper_turns_of self.old) (upper_worked_on self.old.cycle.progress self.new.cycle.progress)) }
         ensures remembered { OnOk result (RememberInOrder self.new.inbox self.new.mutators.items) }
     {
-        self.do_round(rt, script, gate)?;
+        let mut programs = listed(self.alloc, script, self.positions.as_slice())?;
+        self.round_programs(
+            rt,
+            &script.config,
+            &known_before(script),
+            programs.as_mut_slice(),
+            gate,
+        )
+    }
+
+    /// Does one round for programs, one for each mutator in the order of their numbers, as `round` does for a script. Each
+    /// program runs in its mutator's thread, and gets each reply before it is asked for the next command.
+    ///
+    /// `script` is the script of the run so far, for proofs alone. Requires that whatever the programs give in the round, some
+    /// script with more commands at the ends of its programs has these commands (clause `continues`). The round is then a
+    /// round of that script's run (clause `worked`, `DidAsk`). So a program may decide on its next command by the last reply.
+    ///
+    /// The programs stay the caller's. Even after `NoMemory` each is in the state in which it took its last reply, and gave
+    /// at most its own bound of commands (clause `gave`). No other clause applies then. Requires that the last stop answered
+    /// `GoOn` and no round followed.
+    pub fn round_programs<R: Threads + Sync, P: Program, G: Gate>(
+        &mut self,
+        rt: &R,
+        config: &Config,
+        script: &Witness<Script>,
+        programs: &mut [P],
+        gate: &G,
+    ) -> Result<(), NoMemory>
+        requires limits { IsInLimits script.now.value }
+        requires config { config.now ≡ script.now.value.config }
+        requires stopped { HasStopped script.now.value self.old × (self.old.answered ≡ None) }
+        requires programs { MayBeAsked P.words P.most P.valid script.now.value self.old.positions.items programs.old }
+        requires continues { CanContinue P.next P.steps P.words P.most P.valid script.now.value self.old.positions.items programs.old }
+        ensures worked { OnOk result (DidAsk P.next P.steps P.words P.most P.valid script.now.value self.old self.new programs.old programs.new) }
+        ensures gave { GaveSome P.next P.steps P.words P.most P.valid programs.old programs.new }
+        ensures reported { OnOk result ((rows : RoundRows) × (self.new.rows.rounds ≡ self.old.rows.rounds ++ rows ∷ [])) }
+        ensures stops { OnOk result (self.new.rows.stops ≡ self.old.rows.stops) }
+        ensures turns { OnOk result (turns_of self.new ≡ passed (turns_of self.old) (worked_on self.old.cycle.progress self.new.cycle.progress)) }
+        ensures upper_turns { OnOk result (upper_turns_of self.new ≡
+            passed (upper_turns_of self.old) (upper_worked_on self.old.cycle.progress self.new.cycle.progress)) }
+        ensures remembered { OnOk result (RememberInOrder self.new.inbox self.new.mutators.items) }
+    {
+        self.do_round(rt, config, script, programs, gate)?;
         self.meet_all();
         Ok(())
     }
@@ -136,77 +219,97 @@ impl Collector {
     }
 
     // Does what `round` does, except for `meet_all`: only after `meet_all` is the order of the remembered entries known.
-    fn do_round<R: Threads + Sync, G: Gate>(
+    fn do_round<R: Threads + Sync, P: Program, G: Gate>(
         &mut self,
         rt: &R,
-        script: &Script,
+        config: &Config,
+        script: &Witness<Script>,
+        programs: &mut [P],
         gate: &G,
     ) -> Result<(), NoMemory>
-        requires limits { IsInLimits script.now }
-        requires stopped { HasStopped script.now self.old × (self.old.answered ≡ None) }
-        ensures worked { OnOk result (DidRound script.now self.old self.new) }
+        requires limits { IsInLimits script.now.value }
+        requires config { config.now ≡ script.now.value.config }
+        requires stopped { HasStopped script.now.value self.old × (self.old.answered ≡ None) }
+        requires programs { MayBeAsked P.words P.most P.valid script.now.value self.old.positions.items programs.old }
+        requires continues { CanContinue P.next P.steps P.words P.most P.valid script.now.value self.old.positions.items programs.old }
+        ensures worked { OnOk result (DidAsk P.next P.steps P.words P.most P.valid script.now.value self.old self.new programs.old programs.new) }
+        ensures gave { GaveSome P.next P.steps P.words P.most P.valid programs.old programs.new }
         ensures reported { OnOk result ((rows : RoundRows) × (self.new.rows.rounds ≡ self.old.rows.rounds ++ rows ∷ [])) }
         ensures stops { OnOk result (self.new.rows.stops ≡ self.old.rows.stops) }
-        ensures mutator_turns { OnOk result (HaveTried script.now self.old self.new) }
         ensures turns { OnOk result (turns_of self.new ≡ passed (turns_of self.old) (worked_on self.old.cycle.progress self.new.cycle.progress)) }
         ensures upper_turns { OnOk result (upper_turns_of self.new ≡
             passed (upper_turns_of self.old) (upper_worked_on self.old.cycle.progress self.new.cycle.progress)) }
     {
         a_round_leads();
-        self.make_room(script)?;
-        self.make_inbox_room(script)?;
+        self.make_room(config, script, programs)?;
+        self.make_inbox_room(config, script, programs)?;
         let lists = Lists::new(self.alloc, self.mutators.len())?;
         let opening = opening_of(script, self);
-        self.do_slices(rt, script, gate, &opening, lists);
+        self.do_slices(rt, config, script, programs, gate, &opening, lists);
         let rows = take_rows(self.alloc, self.mutators.as_mut_slice())?;
         self.rows.rounds.push(rows)
     }
 
     // Makes room in each mutator for the replies and notes of its slice in the round.
-    fn make_room(&mut self, script: &Script) -> Result<(), NoMemory>
-        requires limits { IsInLimits script.now }
-        requires stopped { HasStopped script.now self.old }
+    fn make_room<P: Program>(
+        &mut self,
+        config: &Config,
+        script: &Witness<Script>,
+        programs: &[P],
+    ) -> Result<(), NoMemory>
+        requires limits { IsInLimits script.now.value }
+        requires config { config.now ≡ script.now.value.config }
+        requires stopped { HasStopped script.now.value self.old }
+        requires programs { MayBeAsked P.words P.most P.valid script.now.value self.old.positions.items programs.now }
         ensures rest { OnOk result (self.new ≡ record self.old { mutators = self.new.mutators }) }
         ensures mutators { OnOk result (AreReserved self.old.mutators.items self.new.mutators.items) }
-        ensures room { OnOk result (HaveSliceRoom script.now self.new) }
+        ensures room { OnOk result (HaveAskRoom P.most config.now.slice self.new.mutators.items programs.now) }
     {
-        reserve_all(
-            self.mutators.as_mut_slice(),
-            script,
-            self.positions.as_slice(),
-        )
+        reserve_all(self.mutators.as_mut_slice(), config.slice, programs)
     }
 
     // If a cycle marks, makes room in the inbox for all entries that the mutators may send in the round.
-    fn make_inbox_room(&mut self, script: &Script) -> Result<(), NoMemory>
-        requires limits { IsInLimits script.now }
-        requires stopped { HasStopped script.now self.old }
+    fn make_inbox_room<P: Program>(
+        &mut self,
+        config: &Config,
+        script: &Witness<Script>,
+        programs: &[P],
+    ) -> Result<(), NoMemory>
+        requires limits { IsInLimits script.now.value }
+        requires config { config.now ≡ script.now.value.config }
+        requires stopped { HasStopped script.now.value self.old }
+        requires programs { MayBeAsked P.words P.most P.valid script.now.value self.old.positions.items programs.now }
         ensures rest { OnOk result (self.new ≡ record self.old { inbox = self.new.inbox }) }
         ensures lists { OnOk result (HavePolled self.old.inbox self.new.inbox) }
-        ensures room { OnOk result (is_marking_in self.old.cycle.progress ≡ true → HasInboxRoom script.now self.old.positions.items self.new.inbox) }
+        ensures room { OnOk result (is_marking_in self.old.cycle.progress ≡ true → HasAskInbox P.most config.now.slice self.new.inbox programs.now) }
     {
         if !self.cycle.progress.is_marking() {
             return Ok(());
         }
-        reserve_inbox(&mut self.inbox, script, self.positions.as_slice())
+        reserve_inbox(&mut self.inbox, config.slice, programs)
     }
 
     // Does the slices of all mutators and the collector's part beside them. Meanwhile the words, the mutators and the
     // workers' room are out of the collector's fields. Moving them takes no memory, and nothing here can fail.
-    fn do_slices<R: Threads + Sync, G: Gate>(
+    fn do_slices<R: Threads + Sync, P: Program, G: Gate>(
         &mut self,
         rt: &R,
-        script: &Script,
+        config: &Config,
+        script: &Witness<Script>,
+        programs: &mut [P],
         gate: &G,
         opening: &Witness<Opened>,
         lists: Lists,
     )
-        requires limits { IsInLimits script.now }
-        requires opens { OpensAt script.now self.old opening.now.value }
-        requires room { HaveSliceRoom script.now self.old }
-        requires inbox { is_marking_in self.old.cycle.progress ≡ true → HasInboxRoom script.now self.old.positions.items self.old.inbox }
+        requires limits { IsInLimits script.now.value }
+        requires config { config.now ≡ script.now.value.config }
+        requires opens { OpensAt script.now.value self.old opening.now.value }
+        requires programs { MayBeAsked P.words P.most P.valid script.now.value self.old.positions.items programs.old }
+        requires continues { CanContinue P.next P.steps P.words P.most P.valid script.now.value self.old.positions.items programs.old }
+        requires room { HaveAskRoom P.most config.now.slice self.old.mutators.items programs.old }
+        requires inbox { is_marking_in self.old.cycle.progress ≡ true → HasAskInbox P.most config.now.slice self.old.inbox programs.old }
         requires lists { HaveRoom (length self.old.mutators.items) lists }
-        ensures { DidSlices script.now opening.now.value self.old self.new }
+        ensures { DidAskSlices P.next P.steps P.words P.most P.valid script.now.value opening.now.value self.old self.new programs.old programs.new }
     {
         slices_lead();
         let Lists {
@@ -228,12 +331,16 @@ impl Collector {
         let mutators = mem::replace(&mut self.mutators, Vec::new(self.alloc));
         self.mutators = seat_all(mutators, seats, &mut workers);
         self.run_workers(
-            rt,
-            &round,
+            &RoundInputs {
+                rt,
+                round: &round,
+                config,
+                gate,
+            },
             &mut collector,
             workers.as_mut_slice(),
             script,
-            gate,
+            programs,
         );
         advance(self.positions.as_mut_slice(), workers.as_slice());
         let emptied = unseat_all(workers, &mut self.mutators, &mut taken);
@@ -243,46 +350,41 @@ impl Collector {
     }
 
     // Does the workers' slices and the collector's part beside them, and notes the slices' requests for cycles.
-    fn run_workers<R: Threads + Sync, G: Gate>(
+    fn run_workers<R: Threads + Sync, P: Program, G: Gate>(
         &mut self,
-        rt: &R,
-        round: &Round,
+        inputs: &RoundInputs<R, G>,
         seat: &mut CollectorSeat,
         workers: &mut [Worker],
-        script: &Script,
-        gate: &G,
+        script: &Witness<Script>,
+        programs: &mut [P],
     )
         requires inbox { self.old.heap.segments.layout.mutators ≤ length self.old.inbox }
-        requires collector { CanHelp round.now seat.old self.old.heap.segments self.old.heap.names self.old.cycle.progress }
-        requires mutators { CanAllWork round.now script.now self.old.positions.items workers.old }
+        requires collector { CanHelp inputs.now.round.now seat.old self.old.heap.segments self.old.heap.names self.old.cycle.progress }
+        requires config { inputs.now.config.now ≡ script.now.value.config }
+        requires mutators { CanAskAll P.words P.most P.valid inputs.now.round.now inputs.now.config.now.slice workers.old programs.old }
         ensures rest { self.new ≡ record self.old {
           heap = record self.old.heap { segments = self.new.heap.segments };
           cycle = record self.old.cycle { progress = self.new.cycle.progress; collect = self.new.cycle.collect; full = self.new.cycle.full };
           inbox = self.new.inbox;
         } }
-        ensures collector { HasHelped round.now script.now.config.quota seat.old seat.new self.old.heap.segments self.new.heap.segments self.old.heap.names
+        ensures collector { HasHelped inputs.now.round.now inputs.now.config.now.quota seat.old seat.new self.old.heap.segments self.new.heap.segments self.old.heap.names
             self.old.cycle.progress self.new.cycle.progress }
-        ensures mutators { HaveAllWorked round.now script.now self.old.positions.items workers.old workers.new }
+        ensures mutators { HaveWorkedAsAsked P.next P.steps P.words P.most P.valid inputs.now.round.now script.now.value self.old.positions.items
+            workers.old workers.new programs.old programs.new }
         ensures polled { HavePolled self.old.inbox self.new.inbox }
         ensures sound { IsSegments self.new.heap.segments }
         ensures collect { self.new.cycle.collect ≡ (self.old.cycle.collect || list_any asks_of workers.new) }
         ensures full { self.new.cycle.full ≡ (self.old.cycle.full || list_any asks_full_of workers.new) }
     {
-        let inputs = RoundInputs {
-            rt,
-            round,
-            script,
-            positions: self.positions.as_slice(),
-            gate,
-        };
-        work_beside(
-            &inputs,
+        ask_beside(
+            inputs,
             &mut self.cycle.progress,
             seat,
             &mut self.heap.segments,
             &self.heap.names,
             &mut self.inbox,
             workers,
+            programs,
         );
         segments_are_sound(&self.heap.segments);
         self.cycle.collect = is_still_asked(self.cycle.collect, some_asks(workers));
@@ -310,18 +412,16 @@ fn meet_each(inbox: &mut Inbox, mutators: &mut [Mutator])
 }
 
 // Makes room in the inbox for the entries that each mutator may send in its next slice, in whole blocks.
-fn reserve_inbox(inbox: &mut Inbox, script: &Script, positions: &[u32]) -> Result<(), NoMemory>
-    requires threads { length script.now.threads ≡ length inbox.old }
-    requires positions { length positions.now ≡ length inbox.old }
+fn reserve_inbox<P: Program>(inbox: &mut Inbox, slice: u32, programs: &[P]) -> Result<(), NoMemory>
+    requires count { length programs.now ≡ length inbox.old }
+    requires valid { (k : ℕ) (p : P) → slice_get programs.now k ≡ Some p → P.valid p }
     requires few { length inbox.old ≤ MAKERS }
-    requires slice { script.now.config.slice ≤ most_slice }
+    requires slice { slice ≤ most_slice }
     ensures lists { HavePolled inbox.old inbox.new }
-    ensures room { OnOk result (HasInboxRoom script.now positions.now inbox.new) }
+    ensures room { OnOk result (HasAskInbox P.most slice inbox.new programs.now) }
 {
-    for number in 0..positions.len() {
-        let program = script.threads.items()[number].items();
-        let left = program.len().saturating_sub(positions[number] as usize);
-        let commands = left.min(script.config.slice as usize) as u32;
+    for number in 0..programs.len() {
+        let commands = programs[number].at_most().min(slice);
         let blocks = (MOST_PUSHED * commands).div_ceil(BLOCK_ENTRIES as u32);
         inbox.reserve(number as u8, blocks * BLOCK_ENTRIES as u32)?;
     }
@@ -336,19 +436,20 @@ fn is_still_asked(before: bool, in_round: bool) -> bool
 }
 
 // Makes room in each mutator for the replies and notes of its next slice.
-fn reserve_all(mutators: &mut [Mutator], script: &Script, positions: &[u32]) -> Result<(), NoMemory>
-    requires threads { length script.now.threads ≡ length mutators.old }
-    requires positions { length positions.now ≡ length mutators.old }
-    requires within { (k : ℕ) → k < length mutators.old → slice_index positions.now k ≤ length (program_of script.now.threads k) }
-    requires few { (k : ℕ) → k < length mutators.old → length (program_of script.now.threads k) < 2 ^ 32 }
+fn reserve_all<P: Program>(
+    mutators: &mut [Mutator],
+    slice: u32,
+    programs: &[P],
+) -> Result<(), NoMemory>
+    requires count { length programs.now ≡ length mutators.old }
+    requires valid { (k : ℕ) (p : P) → slice_get programs.now k ≡ Some p → P.valid p }
+    requires slice { slice ≤ most_slice }
     ensures kept { OnOk result (AreReserved mutators.old mutators.new) }
     ensures room { OnOk result ((k : ℕ) (d : MutatorSeen) → k < length mutators.old →
-        HasLists (min script.now.config.slice (length (left_at script.now positions.now k))) (slice_index_or mutators.new k d)) }
+        HasLists (min slice (most_at P.most programs.now k)) (slice_index_or mutators.new k d)) }
 {
     for (number, mutator) in mutators.iter_mut().enumerate() {
-        let program = script.threads.items()[number].items();
-        let left = program.len() as u32 - positions[number];
-        mutator.reserve(left.min(script.config.slice))?;
+        mutator.reserve(programs[number].at_most().min(slice))?;
     }
     Ok(())
 }

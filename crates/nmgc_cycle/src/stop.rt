@@ -25,22 +25,26 @@
 //! 5. Begin (`try_begin`, by `do_due_cycle`). If step 4 wasn't done and a cycle is due (`is_due`), it begins (`start`).
 //! 6. Answer (`stop`). The row gets the numbers of the heap that this stop leaves. The answer is chosen: the run goes on, is
 //!    done, or has a full heap. An end is kept in `answered`.
-ghost use Rattle.std.specs.Prelude.{ℕ, ◌≡◌, ◌↔◌, ◌^◌, ◌<◌, [], ◌∷◌, ◌++◌, IfOk, OnOk, IsSome, IsTrue, length};
+ghost use Rattle.std.specs.Prelude.{ℕ, ◌≡◌, ◌↔◌, ◌^◌, ◌<◌, [], ◌∷◌, ◌++◌, IfOk, OnOk, IsSome, IsTrue, Some, length, slice_get};
 ghost use Rattle.nmgc_stop_spec.specs.Stopped.{Stopped};
 ghost use Rattle.nmgc_minor.specs.Promotion.{IsFor};
-ghost use Rattle.nmgc_cycle.specs.{Cycles.MarksOn, Shown.turns_of, Shown.upper_turns_of, Shown.mutator_turns_of, Keeps.CanStop, Keeps.HasAnswered, Keeps.StopsAfter, Stopping.StandsStopped, Stopping.CanList, Stopping.HasListed, Stopping.HasPromoted, Stopping.SomeIsLeft, Stopping.IsDone, Stopping.IsHeapFullAt, Stopping.ended_by};
+ghost use Rattle.nmgc_cycle.specs.{Cycles.MarksOn, Shown.turns_of, Shown.upper_turns_of, Shown.mutator_turns_of, Keeps.CanStop, Keeps.HasAnswered, Keeps.StopsAfter, Stopping.StandsStopped, Stopping.CanList, Stopping.HasListed, Stopping.HasPromoted, Stopping.SomeIsLeft, Stopping.IsDone, Stopping.IsHeapFullAt, Stopping.ended_by, Keeps.NothingReachableIsFreed, Programs.FollowEach};
 ghost use Rattle.nmgc_script.specs.Spelling.{IsInLimits};
 ghost use Rattle.nmgc_cycle.specs.declared.stop.StopEnd.TheVariants as answer;
 ghost use Rattle.nmgc_sweep.specs.NameTable.{HaveEntries};
 
 use crate::Collector;
+use crate::asking::is_some_left;
 use crate::name_notes::note_moves;
+use crate::round::known_before;
 use crate::stop_laws::a_stop_leads;
-use crate::worker::is_some_left;
+use crate::worker::are_commands_left;
 use nmgc_collector_laws::marking::moved_join_the_list;
 use nmgc_journal::{End, Phase, StopRow};
 use nmgc_lists::NoMemory;
-use nmgc_script::Script;
+use nmgc_mutator::Program;
+use nmgc_round::Witness;
+use nmgc_script::{Config, Script};
 use nmgc_weak::laws::weaks_without_value_leave_the_list;
 use std::thread::Threads;
 
@@ -64,7 +68,7 @@ impl Collector {
     /// census. A full cycle is done exactly if it is due; otherwise a cycle begins exactly if it is due. The stop's row has
     /// the numbers of the heap that the stop leaves, and follows the rows before; rows of rounds stay. The run after the stop
     /// is the run before the round, with this round and this stop, whatever the answer. Only weak pointers that die at a
-    /// closing change the world. No command is answered.
+    /// closing change the world. No command is answered. Each reachable object has its block afterwards (clause `freed`).
     ///
     /// Answers `Done` exactly if no command is left and no cycle is in progress. Answers `HeapFull` exactly if commands are
     /// left and fewer segments are free than the reserve, even after a full cycle at this stop. If the same cycle marks
@@ -86,6 +90,63 @@ impl Collector {
         ensures done { IfOk result (λ end. (end ≡ answer.Done) ↔ IsDone script.now self.new) }
         ensures full { IfOk result (λ end. (free reserve : ℕ) → (end ≡ answer.HeapFull free reserve) ↔ IsHeapFullAt script.now self.new free reserve) }
         ensures marks_on { OnOk result (MarksOn self.old self.new) }
+        ensures freed { OnOk result (NothingReachableIsFreed script.now self.new) }
+        ensures rounds { OnOk result (self.new.rows.rounds ≡ self.old.rows.rounds) }
+        ensures stops { OnOk result ((row : StopRow) × (self.new.rows.stops ≡ self.old.rows.stops ++ row ∷ [])) }
+        ensures mutator_turns { OnOk result (mutator_turns_of self.new ≡ mutator_turns_of self.old) }
+        ensures turns { OnOk result (turns_of self.new ≡ turns_of self.old) }
+        ensures upper_turns { OnOk result (upper_turns_of self.new ≡ upper_turns_of self.old) }
+    {
+        let left = self.has_commands_left(script);
+        self.do_stop(rt, script.config.trigger, &known_before(script), left)
+    }
+
+    /// Does a stop of a run of programs, as `stop` does for a script, and returns its answer. `script` is the script of the
+    /// run so far, for proofs alone: the rest of each of its programs begins with the program's next command. No program is
+    /// asked for more than that command. The caller has the programs as they were at their last reply.
+    pub fn stop_programs<R: Threads + Sync, P: Program>(
+        &mut self,
+        rt: &R,
+        config: &Config,
+        script: &Witness<Script>,
+        programs: &[P],
+    ) -> Result<StopEnd, NoMemory>
+        requires limits { IsInLimits script.now.value }
+        requires config { config.now ≡ script.now.value.config }
+        requires valid { (k : ℕ) (p : P) → slice_get programs.now k ≡ Some p → P.valid p }
+        requires follow { FollowEach P.next script.now.value self.old.positions.items programs.now }
+        requires can { CanStop script.now.value self.old }
+        ensures answered { IfOk result (λ end. HasAnswered script.now.value self.new end) }
+        ensures after { OnOk result (StopsAfter script.now.value self.old self.new) }
+        ensures freed { OnOk result (NothingReachableIsFreed script.now.value self.new) }
+        ensures positions { OnOk result (self.new.positions.items ≡ self.old.positions.items) }
+        ensures rounds { OnOk result (self.new.rows.rounds ≡ self.old.rows.rounds) }
+        ensures stops { OnOk result ((row : StopRow) × (self.new.rows.stops ≡ self.old.rows.stops ++ row ∷ [])) }
+    {
+        let left = is_some_left(programs);
+        self.do_stop(rt, config.trigger, script, left)
+    }
+
+    // Does a stop of the run of this script, and returns its answer. `left` says whether any program has commands left.
+    fn do_stop<R: Threads + Sync>(
+        &mut self,
+        rt: &R,
+        trigger: u32,
+        script: &Witness<Script>,
+        left: bool,
+    ) -> Result<StopEnd, NoMemory>
+        requires limits { IsInLimits script.now.value }
+        requires trigger { trigger ≡ script.now.value.config.trigger }
+        requires left { IsTrue left ↔ SomeIsLeft script.now.value.threads self.old.positions.items }
+        requires can { CanStop script.now.value self.old }
+        ensures answered { IfOk result (λ end. HasAnswered script.now.value self.new end) }
+        ensures after { OnOk result (StopsAfter script.now.value self.old self.new) }
+        ensures done { IfOk result (λ end. (end ≡ answer.Done) ↔ IsDone script.now.value self.new) }
+        ensures full { IfOk result (λ end. (free reserve : ℕ) → (end ≡ answer.HeapFull free reserve) ↔
+            IsHeapFullAt script.now.value self.new free reserve) }
+        ensures marks_on { OnOk result (MarksOn self.old self.new) }
+        ensures freed { OnOk result (NothingReachableIsFreed script.now.value self.new) }
+        ensures positions { OnOk result (self.new.positions.items ≡ self.old.positions.items) }
         ensures rounds { OnOk result (self.new.rows.rounds ≡ self.old.rows.rounds) }
         ensures stops { OnOk result ((row : StopRow) × (self.new.rows.stops ≡ self.old.rows.stops ++ row ∷ [])) }
         ensures mutator_turns { OnOk result (mutator_turns_of self.new ≡ mutator_turns_of self.old) }
@@ -98,8 +159,7 @@ impl Collector {
         self.add_remembered();
         self.try_close(number);
         self.try_end(number)?;
-        let left = self.has_commands_left(script);
-        self.do_due_cycle(rt, left, script.config.trigger, number)?;
+        self.do_due_cycle(rt, left, trigger, number)?;
         let free = self.heap.segments.free_count();
         let row = StopRow {
             number,
@@ -127,7 +187,7 @@ impl Collector {
         requires { length self.now.positions.items ≡ length script.now.threads }
         ensures { IsTrue result ↔ SomeIsLeft script.now.threads self.now.positions.items }
     {
-        is_some_left(script, self.positions.as_slice())
+        are_commands_left(script, self.positions.as_slice())
     }
 
     // Promotes objects of the round, and returns the number of objects that moved. Weak pointers that were finalised in the

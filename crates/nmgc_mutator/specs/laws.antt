@@ -1,4 +1,5 @@
 pub mod Common
+pub mod Lists
 pub mod Refilled
 pub mod Starts
 mod Vocabulary

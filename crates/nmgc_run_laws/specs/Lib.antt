@@ -2,6 +2,7 @@ pub mod Course
 pub mod Ends
 pub mod Headers
 pub mod Limits
+pub mod Longer
 pub mod Places
 pub mod Sound
 pub mod Statements

@@ -7,9 +7,10 @@ use Rattle.nmgc_alloc.specs.AllocState.{is}
 use Rattle.nmgc_journal.specs.{declared.report.RoundRows.RoundRows, declared.report.Report.Report, declared.report.StopRow.StopRow, declared.report.CycleRow.CycleRow, declared.report.End.End}
 use Rattle.nmgc_script.specs.{Spelling.FitsScript, Spelling.upgraded, declared.script.Script.Script, Parts.HasFewCommands}
 use Rattle.nmgc_run_spec.specs.{AfterRound.program_of, Run.Plan, Run.answer_of, Run.Run, Run.Turn, Run.IsRun, Run.IsTurn, Run.AreRowsOf, Run.last_state, Lawful.IsLawful, Lawful.IsRunOf, AfterRound.with_turn, Run.IsFoundObject, Run.IsSteadyObject, Run.owed}
-use Rattle.nmgc_world_spec.specs.{declared.value.Name.Name, Reach.Row, Reach.replayed}
+use Rattle.nmgc_world_spec.specs.{declared.value.Name.Name, Reach.Row, Reach.replayed, World.serial_of}
 use Rattle.nmgc_world_laws.specs.Reachable.{IsSound}
 use Rattle.nmgc_stop_spec.specs.{Cycle.Cycle, Kept.interval_of}
+use Rattle.nmgc_run_laws.specs.Sound.{IsRunnable}
 
 -- the law that a layout has the classes of dense blocks, and one for each doubling from `DENSE_WORDS` to a segment's words
 abbrev pub ClassesAreCounted : Type 0
@@ -25,6 +26,11 @@ answered_count (rows ∷ rounds) m = length (slice_index_or rows.replies m []) +
 abbrev pub LeftIsDetermined : Type 0
 LeftIsDetermined = (plan : Plan) (run : Run) (rounds : List RoundRows) (stops : List StopRow) (cycles : List CycleRow) → IsRun plan run →
     AreRowsOf run rounds stops cycles → (m : ℕ) → program_of (last_state run).left m ≡ drop (answered_count rounds m) (program_of plan.threads m)
+
+-- the law that a command makes at most one object: a mutator's serial and the commands left are no more than its program
+abbrev pub SerialsAreFew : Type 0
+SerialsAreFew = (plan : Plan) (run : Run) → IsRunnable plan → IsRun plan run → (m : ℕ) →
+    serial_of (last_state run).world m + length (program_of (last_state run).left m) ≤ length (program_of plan.threads m)
 
 -- the number of free segments in the row of the last stop
 abbrev pub last_free_count : List StopRow → ℕ

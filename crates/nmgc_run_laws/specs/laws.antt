@@ -12,11 +12,13 @@ pub mod FullHeaps
 pub mod Leaving
 pub mod Lefts
 pub mod Limits
+pub mod Longer
 pub mod Mutators
 pub mod Places
 pub mod Programs
 pub mod Rounds
 pub mod Runs
+pub mod SerialRuns
 pub mod Serials
 pub mod States
 pub mod Stops

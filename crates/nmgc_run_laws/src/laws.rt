@@ -1,5 +1,5 @@
 //! Laws that test the definitions of `nmgc_run_spec`, as contracts of functions. A body only calls the laws that it needs.
-ghost use Rattle.nmgc_run_laws.specs.Statements.{ClassesAreCounted, RunGoesOn, AddsOneTurn, LastIsOfTurn, LeftIsDetermined, FreeIsReal, VersionIsNothing, UpgradeIsNothing, EachCycleHasItsRow, ClosingsAreSoon, LawfulAreOfRuns, FoundIsSteady};
+ghost use Rattle.nmgc_run_laws.specs.{Statements.ClassesAreCounted, Statements.RunGoesOn, Statements.AddsOneTurn, Statements.LastIsOfTurn, Statements.LeftIsDetermined, Statements.FreeIsReal, Statements.VersionIsNothing, Statements.UpgradeIsNothing, Statements.EachCycleHasItsRow, Statements.ClosingsAreSoon, Statements.LawfulAreOfRuns, Statements.FoundIsSteady, Longer.RunsAreOfLonger, Longer.RowsAreOfLonger, Statements.SerialsAreFew};
 ghost use Rattle.nmgc_run_laws.specs.{Ends.EndsAreStops, Places.BlocksAtStop, Places.BlocksAfterRound, Places.BlocksArePlaces, Sound.StatesAreSound, Sound.RoundsAreSound, Sound.TrackedHaveBlocks, Course.RunsAreInCourse, Course.RoundsStayInCourse, Course.PromotionsStayInCourse, Course.CyclesBeginInCourse, Limits.ScriptsHaveGoodPlans, Limits.StatesAreWithin, Limits.RoundsAreWithin};
 
 use nmgc_alloc::laws::counts_are_equal;
@@ -106,4 +106,17 @@ pub fn lawful_reports_are_of_runs()
 /// owed nothing. So the two bounds of the closing count the same objects there.
 pub fn found_objects_are_steady()
     ensures { FoundIsSteady }
+{}
+
+/// Proves that a run is also a run of longer programs, with the same rows. The longer programs have more commands at their
+/// ends, and only programs with commands left after the run's last stop may be longer. So a program may decide as it goes.
+pub fn runs_are_of_longer_programs()
+    ensures runs { RunsAreOfLonger }
+    ensures rows { RowsAreOfLonger }
+{}
+
+/// Proves that a mutator makes at most one object with each command. At a stop, the sum of its serial and the number of its
+/// commands left is at most the length of its program.
+pub fn serials_are_few()
+    ensures { SerialsAreFew }
 {}

@@ -1,5 +1,5 @@
 -- In every run of the machine only names are marked that the cycle's scans may meet (`IsMet HoldsOnce`).
-use Rattle.nmgc_collector_laws.proofs.Vocabulary.{◌≡◌, ◌<◌, ◌⊎◌, ◌++◌, ◌∷◌, ◌∙◌, ℕ, true, false, List, [], length, refl, sym, ap, subst, arith, append-nil, append_assoc, inl, inr, Some, IsSome, All, Contains, All-nil, All-append, All-head, All-tail, All-contains, Contains-append_left, Contains-append_right, contains_one, Command, Reply, Name, World, IsWorld, node_of, CanApply, step, Row, replayed, owed_by, owed_along, Entry, Event, Facts, HasStrongField, Passes, after_command, after_push, after_scan, after_take, pushed_of, Runs, State, names_of, read_at, opening, opening_world, each_names, mark_cases, none_at_first, event_keeps_facts, opening_has_facts, snapshot_theorem, Happening, did, scanned, IsLegal, replay, rows_in, Cycle, IsMachineAtRest, with_rows}
+use Rattle.nmgc_collector_laws.proofs.Vocabulary.{◌≡◌, ◌<◌, ◌++◌, ◌∷◌, ◌∙◌, ℕ, true, false, List, [], length, refl, sym, ap, subst, arith, append-nil, append_assoc, inl, inr, Some, All, Contains, All-nil, All-append, All-head, All-tail, Contains-append_left, Contains-append_right, contains_one, Command, Reply, Name, World, IsWorld, node_of, CanApply, step, Row, replayed, owed_by, owed_along, Entry, Event, Facts, HasStrongField, Passes, after_command, after_push, after_scan, after_take, pushed_of, Runs, State, names_of, read_at, opening, opening_world, each_names, mark_cases, none_at_first, event_keeps_facts, opening_has_facts, snapshot_theorem, Happening, did, scanned, IsLegal, replay, rows_in, Cycle, IsMachineAtRest, with_rows}
 use Rattle.nmgc_world_spec.specs.World.{shared_name, is_same_name}
 use Rattle.nmgc_run_spec.specs.Run.{HoldsOnce, IsMet}
 use Rattle.nmgc_snapshot_laws.specs.laws.{Listed.has_place, MarkedOnce.open_before, Runs.SameHistory, Runs.push_history, Runs.scan_history, Runs.take_history, Runs.replayed-push}

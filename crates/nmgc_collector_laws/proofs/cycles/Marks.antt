@@ -1,8 +1,8 @@
 -- What holds of all marked names, as the marking machine marks names of the snapshot. And g, which is marked first, never waits.
-use Rattle.nmgc_collector_laws.proofs.Vocabulary.{◌≡◌, ◌≢◌, ◌≤◌, ◌⊎◌, ◌+◌, ◌++◌, ◌∷◌, ◌∙◌, ℕ, zero, suc, Bool, true, false, not, cond, List, [], refl, sym, ap, subst, arith, inl, inr, Option, Some, None, IsSome, All, Contains, is_some, flat_map, and_parts, All-append, All-head, All-tail, All-nil, Contains-append_left, Contains-append_right, Contains-append_cases, get_or_from_slice_get, MutatorState, Node, Con, Var, Arr, Thunk, Weak, Stack, Name, Value, World, node_of, state_of, no_mutator, shared_name, IsRoot, RefersTo, strong_fields, contains_head, contains_tail, is_some_of, nothing_in, one_is, Names, HasStrongField, has_result, strong_at, Entry, Facts, advanced, after_scan, read_at, field_at, State, entry_of, is_listed, mark_name, mark_read, mark_values, opening, root_values, first_state, all_from_contains, live_there, mark_cases, read_cases, thunk_free}
+use Rattle.nmgc_collector_laws.proofs.Vocabulary.{◌≡◌, ◌⊎◌, ◌+◌, ◌∷◌, ◌∙◌, ℕ, zero, suc, Bool, true, false, not, cond, List, [], refl, sym, ap, subst, arith, inl, inr, Option, Some, None, IsSome, All, Contains, is_some, flat_map, and_parts, All-append, All-head, All-tail, All-nil, Contains-append_left, Contains-append_right, Contains-append_cases, get_or_from_slice_get, MutatorState, Node, Con, Var, Arr, Thunk, Weak, Stack, Name, Value, World, node_of, state_of, no_mutator, shared_name, IsRoot, RefersTo, strong_fields, contains_head, contains_tail, is_some_of, nothing_in, one_is, Names, HasStrongField, has_result, strong_at, Entry, Facts, advanced, after_scan, read_at, field_at, State, entry_of, is_listed, mark_name, mark_read, mark_values, opening, root_values, first_state, all_from_contains, live_there, mark_cases, read_cases, thunk_free}
 use Rattle.nmgc_lists.specs.laws.Items.{place_of}
 use Rattle.nmgc_world_laws.specs.Holds.{free_of}
-use Rattle.nmgc_snapshot_laws.specs.{Scan.is_last, Scan.moved_on, laws.Listed.not_listed, laws.Runs.read_history}
+use Rattle.nmgc_snapshot_laws.specs.{Scan.is_last, Scan.moved_on, laws.Listed.not_listed}
 use Rattle.std.proofs.lemmas.Bool.{not-true}
 use Rattle.nmgc_world_spec.specs.declared.value.Value.TheVariants as value
 

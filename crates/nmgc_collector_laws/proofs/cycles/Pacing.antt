@@ -1,6 +1,6 @@
 -- The bounds of a closing, by the pace of marking.
 use Rattle.nmgc_collector_laws.proofs.{Vocabulary.◌≡◌, Vocabulary.◌+◌, Vocabulary.ℕ, Vocabulary.List, Vocabulary.[], Vocabulary.◌∷◌, Vocabulary.length, Vocabulary.map, Vocabulary.refl, Vocabulary.sym, Vocabulary.ap, Vocabulary.◌∙◌, Vocabulary.arith, Vocabulary.inl, Vocabulary.inr, Vocabulary.cases_lt, Vocabulary.Name, Vocabulary.shared_name, Vocabulary.contains_head, Vocabulary.Entry, Vocabulary.opening, Vocabulary.Place, Vocabulary.IsStrongObject, Vocabulary.Counts, Vocabulary.AreAt, Vocabulary.one_more, Vocabulary.within_rounds, Vocabulary.others_counted, Vocabulary.IsOnce, Vocabulary.once_runs, Vocabulary.once_opening, Vocabulary.ClosingIsSoon, Vocabulary.ClosingComes, Vocabulary.ClosingIsPaced, cycles.Strong.IsExactlyStrong, cycles.Strong.Strong, cycles.Strong.exactly_strong}
-use Rattle.nmgc_collector_laws.proofs.Vocabulary.{◌<◌, ◌≤◌, ◌-◌, ◌*◌, true, false, subst, Contains, IsWorld, IsRoot, World, Event, Runs, Core, IsAhead, queued, IsSome, node_of, contains_tail, nothing_in, facts_kept, snapshot_theorem, Cycle}
+use Rattle.nmgc_collector_laws.proofs.Vocabulary.{◌≤◌, ◌-◌, ◌*◌, true, false, subst, Contains, IsWorld, IsRoot, World, Event, Runs, Core, IsAhead, queued, IsSome, node_of, contains_tail, nothing_in, facts_kept, snapshot_theorem, Cycle}
 use Rattle.nmgc_world_spec.specs.Reach.{AreDistinct, HoldsThroughout}
 use Rattle.nmgc_lists.specs.laws.Items.{contains_cases}
 use Rattle.nmgc_world_laws.specs.laws.Distinct.{no_more}

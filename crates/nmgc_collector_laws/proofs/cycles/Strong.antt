@@ -1,8 +1,7 @@
 -- Only names that strong fields of the snapshot reach from its roots, or from opened names, are marked. If no command owes
 -- anything, exactly the names that they reach from the roots are marked.
-use Rattle.nmgc_collector_laws.proofs.Vocabulary.{◌≡◌, ◌<◌, ℕ, zero, suc, true, false, List, [], ◌∷◌, ◌++◌, length, refl, sym, ap, subst, ◌∙◌, arith, inl, inr, Option, Some, None, IsSome, IfSome, All, Contains, is_some, flat_map, and_parts, All-nil, All-append, All-head, All-tail, All-contains, Contains-append_left, Contains-append_right, Contains-append_cases, get_or_from_slice_get, Command, Reply, MutatorState, Node, Con, Var, Arr, Thunk, Weak, Stack, Name, Value, World, IsWorld, node_of, state_of, no_mutator, CanApply, next_name, shared_name, step, Row, IsReached, IsRoot, RefersTo, strong_fields, contains_head, contains_tail, at_some, is_some_of, nothing_in, one_is, not_shared, Names, Fields, CoversReach, has_result, strong_at, owed_by, field_at_place, some_of, all_moves, opened_owed, Entry, Event, Facts, IsSafe, IsAhead, marked, owed, queued, Passes, after_scan, advanced, Runs, read_at, field_at, State, names_of, is_listed, mark_name, mark_read, mark_values, opening, root_values, first_state, next_absent, all_from_contains, each_names, live_there, stands, mark_cases, event_keeps_facts, opening_has_facts, opening_world, snapshot_theorem, read_cases, world_scanned, owed_along, none_at_first, thunk_free, not}
-use Rattle.nmgc_lists.specs.laws.Items.{place_of}
-use Rattle.nmgc_world_laws.specs.{Holds.free_of, laws.Moves.RespectsBarrier}
+use Rattle.nmgc_collector_laws.proofs.Vocabulary.{◌≡◌, ◌<◌, ℕ, true, false, List, [], ◌∷◌, ◌++◌, length, refl, sym, ap, subst, ◌∙◌, arith, inl, inr, Option, Some, None, IsSome, IfSome, All, Contains, All-contains, Command, Reply, Node, Name, World, IsWorld, node_of, state_of, CanApply, next_name, shared_name, step, Row, IsReached, IsRoot, RefersTo, strong_fields, at_some, nothing_in, not_shared, Names, Fields, CoversReach, owed_by, field_at_place, some_of, all_moves, opened_owed, Entry, Event, Facts, IsSafe, IsAhead, marked, owed, queued, Passes, after_scan, Runs, read_at, State, names_of, opening, next_absent, all_from_contains, each_names, stands, event_keeps_facts, opening_has_facts, opening_world, snapshot_theorem, world_scanned, owed_along, none_at_first, not}
+use Rattle.nmgc_world_laws.specs.{laws.Moves.RespectsBarrier}
 use Rattle.nmgc_world_spec.specs.Reach.{opened_by, values_owed}
 use Rattle.nmgc_snapshot_laws.specs.{Facts.pushed, Facts.unmarked, laws.MarkedOnce.open_before}
 use Rattle.nmgc_world_spec.specs.declared.value.Value.TheVariants as value

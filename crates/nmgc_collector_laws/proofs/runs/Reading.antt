@@ -1,5 +1,5 @@
 -- Words that are as specified, read one by one.
-use Rattle.nmgc_collector_laws.proofs.Vocabulary.{ℕ, zero, suc, ◌≡◌, ◌+◌, List, [], ◌∷◌, ◌++◌, length, map, replicate, get_or, refl, subst, Option, Some, None, Bool, true, false, slice_get, if◌then◌else◌, get_or-append-add, Nil, Node, Slot, holds, Place, Fills, HasSlots, some_is}
+use Rattle.nmgc_collector_laws.proofs.Vocabulary.{ℕ, zero, suc, ◌≡◌, List, [], ◌∷◌, ◌++◌, length, map, replicate, get_or, refl, subst, Option, Some, None, Bool, true, false, slice_get, if◌then◌else◌, get_or-append-add, Nil, Node, Slot, holds, Place, Fills, HasSlots, some_is}
 
 -- a name of g's maker has g's node, if it has a node, and any other name its own
 pub shared_or : (b d : Bool) (shared : Node) (o : Option Node) (node : Node) (A : Type 0) → (b ≡ true → d ≡ true → A) → (o ≡ Some node → A) →

@@ -1,5 +1,5 @@
 -- The words and segments after a script that makes one object.
-use Rattle.nmgc_collector_laws.proofs.Vocabulary.{◌-◌, ℕ, zero, suc, ◌≡◌, ◌+◌, ◌*◌, ◌<◌, ◌≤◌, ◌⊎◌, ◌↔◌, List, [], ◌∷◌, ◌++◌, length, map, replicate, get_or, slice_index, arith, refl, sym, ap, subst, ◌∙◌, inl, inr, Option, Some, None, lit≤, lit<, IsSome, Contains, slice_get, ◌==◌, REGISTERS, SHARED_MAKER, SHARED_SLOTS, Name, Nil, Number, Node, Con, Arr, Weak, Parts, node_of, state_of, shared_name, IsAlive, contains_head, contains_tail, contains_cases, none_in, Layout, InNursery, word_total, InUse, nth, HasNumber, block_place, block_size, name_word, IsName, StandsFor, Shows, LiesIn, AreNames, all_empty, cells, no_cells, name_in, holds, size_of, zeros_first, Place, HasSlots, ListMeans, LiesWell, LiesInSegment, shared_place, IsNamed, IsPlaced, Represents, NoNode, layout_of, IsPlaceAtStop, FitBlocks, ObjectIsLawful, small_plan, object_program, object_name, object_words, object_segments, object_mutator, some_is, not_known, eqb-true}
+use Rattle.nmgc_collector_laws.proofs.Vocabulary.{◌-◌, ℕ, zero, suc, ◌≡◌, ◌+◌, ◌≤◌, ◌⊎◌, ◌↔◌, List, [], ◌∷◌, ◌++◌, length, map, replicate, get_or, slice_index, arith, refl, sym, ap, subst, ◌∙◌, inl, inr, Option, Some, None, lit≤, lit<, IsSome, Contains, slice_get, ◌==◌, REGISTERS, SHARED_MAKER, SHARED_SLOTS, Name, Nil, Number, Node, Con, Arr, Weak, Parts, node_of, state_of, shared_name, IsAlive, contains_head, contains_tail, contains_cases, none_in, Layout, InNursery, word_total, InUse, nth, HasNumber, block_place, block_size, name_word, IsName, StandsFor, Shows, LiesIn, AreNames, all_empty, cells, no_cells, name_in, holds, size_of, zeros_first, Place, HasSlots, ListMeans, LiesWell, LiesInSegment, shared_place, IsNamed, IsPlaced, Represents, NoNode, layout_of, IsPlaceAtStop, FitBlocks, ObjectIsLawful, small_plan, object_program, object_name, object_words, object_segments, object_mutator, some_is, not_known, eqb-true}
 use Rattle.nmgc_alloc.specs.Segments.{all_free}
 use Rattle.nmgc_journal.specs.declared.report.MutatorEnd.{MutatorEnd}
 use Rattle.nmgc_run_spec.specs.Lawful.{HasObject, HoldsAtEnd, IsMutatorAtEnd}

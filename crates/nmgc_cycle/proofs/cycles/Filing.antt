@@ -1,6 +1,5 @@
 -- With current and active segments filed as filled, the collector represents the state with them filed.
 use Rattle.nmgc_cycle.proofs.Vocabulary.{ℕ, ◌≡◌, ◌<◌, length, map, refl, sym, ap, subst, ◌∙◌, arith, inl, inr, length-map, World, block_size, Layout, Segment, AllocState, Cells, cells, all_retired, retired_state, nth, Segments, block_place, IsSegments, retired, retired_cells, retired_names, nth-map, retired_stands, Place, FitBlocks, HoldsAtStop, IsPlaceAtStop, AreSettled, ends_of, IsSoundState, State, Progress, idle, plan_of, layout_of, with_all_retired, retired_filed, Script, named_retired, Collector, Doing, filed_by, FilingLeads, IsWellFormed, seen, words_in, phase_in, StandsAt, none_then}
-use Rattle.nmgc_segment.specs.declared.state.State.TheVariants as stands
 use Rattle.nmgc_cycle.specs.declared.progress.Progress.TheVariants as doing
 use Rattle.nmgc_cycle.proofs.cycles.StepReady.{idle_state}
 

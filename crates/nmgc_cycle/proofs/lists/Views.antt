@@ -6,9 +6,9 @@ use Rattle.nmgc_mutator.specs.declared.mutator.Mutator.{Mutator}
 use Rattle.nmgc_collector_laws.specs.Worked as worked
 use Rattle.nmgc_run_spec.specs.Terms as reported
 use Rattle.nmgc_run_spec.specs.Terms.{HasAllRegisters}
-use Rattle.nmgc_collector_laws.specs.{Seen.ends_of, Seen.end_of, Seen.nurseries_of, Seen.recorded_in, Seen.young_weaks_in, Seen.finalised_in, laws.Roots.same_registers, laws.Roots.same_queues, laws.Roots.same_serials}
+use Rattle.nmgc_collector_laws.specs.{Seen.ends_of, Seen.end_of, Seen.nurseries_of, Seen.recorded_in, Seen.young_weaks_in, laws.Roots.same_registers, laws.Roots.same_queues, laws.Roots.same_serials}
 use Rattle.nmgc_cycle.specs.{declared.collector.Collector.Collector, Roots.HasRegisters, Shown.seen, Shown.seen_mutator}
-use Rattle.nmgc_cycle.proofs.lists.RootLists.{same_nurseries, same_recorded, same_weaks, same_finalised}
+use Rattle.nmgc_cycle.proofs.lists.RootLists.{same_nurseries, same_recorded, same_weaks}
 
 -- the mutators, as in a report
 abbrev ends_in : List Mutator → List MutatorEnd

@@ -1,10 +1,10 @@
 -- The workers of a round, in the lists that the round fills; and the state after them and the collector.
-use Rattle.nmgc_cycle.proofs.Vocabulary.{ℕ, ◌≡◌, ◌+◌, ◌<◌, ◌^◌, List, [], ◌++◌, length, map, take, drop, slice_index, refl, sym, ap, subst, ◌∙◌, Bool, Some, Global, All, ◌||◌, Vec, Segments, IsSegments, Round, Opening, Scan, Seen, whole, RoundSeat, IsAt, opening_of, all_together, collecting, HasAll, Leaves, Mutator, SlicesAreGathered, Script, Name, Collector, Worker, HasHelped, list_any, asks_of, asks_full_of, DidSlices, HaveSliceRoom, CanAllWork, HaveAllWorked, workers_of, mutator_of, seat_of, done_by, seen_mutator, Receiver, HavePolled}
+use Rattle.nmgc_cycle.proofs.Vocabulary.{ℕ, ◌≡◌, ◌+◌, ◌<◌, ◌^◌, List, [], ◌++◌, length, map, take, drop, slice_index, refl, sym, ap, subst, ◌∙◌, Bool, Some, Global, All, ◌||◌, Vec, Segments, IsSegments, Round, Opening, Scan, Seen, whole, RoundSeat, IsAt, opening_of, all_together, collecting, HasAll, Leaves, Mutator, SlicesAreGathered, Script, Name, Collector, Worker, HasHelped, list_any, asks_of, asks_full_of, DidSlices, MayBeAsked, HaveAskRoom, CanAskAll, HaveAllWorked, workers_of, mutator_of, seat_of, done_by, seen_mutator, Receiver, HavePolled}
 use Rattle.nmgc_round.specs.Seat.{seen}
 use Rattle.nmgc_collector_laws.specs.Owed as owed
 use Rattle.nmgc_cycle.specs.declared.progress.Progress as held
 use Rattle.nmgc_cycle.specs.declared.progress.Progress.TheVariants as doing
-use Rattle.nmgc_cycle.proofs.{rounds.Ran.MayBegin, rounds.Ran.HasBegun, rounds.Ran.HasRun, rounds.Ran.can_open, rounds.Ran.may_work, rounds.Ran.workers_are, rounds.Ran.has_run, Vocabulary.MutatorsAreReady, lists.RootLists.seen_at, rounds.Sliced.overwritten, rounds.Sliced.asks_are, rounds.Sliced.asks_full_are, rounds.Sliced.each_did}
+use Rattle.nmgc_cycle.proofs.{rounds.Ran.MayBegin, rounds.Ran.HasBegun, rounds.Ran.HasRun, rounds.Ran.can_open, rounds.Ran.may_ask, rounds.Ran.workers_are, rounds.Ran.has_run, Vocabulary.MutatorsAreReady, lists.RootLists.seen_at, rounds.Sliced.overwritten, rounds.Sliced.asks_are, rounds.Sliced.asks_full_are, rounds.Sliced.each_did}
 
 -- positions that can advance by these numbers
 abbrev pub CanMove : List ℕ → List ℕ → Type 0
@@ -38,9 +38,11 @@ module _ (script : Script) (c : Collector) (o : Opening) (round : Round) (was : 
   pub counted : length was ≡ length c.mutators.items
   counted = ap (λ (l : List Worker). length l) u.seated ∙ workers_are script c o round u.seats u.begun
 
-  pub can_play : MutatorsAreReady → HaveSliceRoom script c → CanAllWork round script c.positions.items was
-  can_play begin room =
-      subst (λ (l : List Worker). CanAllWork round script c.positions.items l) (sym u.seated) (may_work begin script c o round u.seats u.begun room)
+  pub can_ask : MutatorsAreReady → {P : Type 0} (words most : P → ℕ) (valid : P → Type 0) (programs : List P) →
+      MayBeAsked words most valid script c.positions.items programs → HaveAskRoom most script.config.slice c.mutators.items programs →
+      CanAskAll words most valid round script.config.slice was programs
+  can_ask begin words most valid programs asked room = subst (λ (l : List Worker). CanAskAll words most valid round script.config.slice l programs)
+      (sym u.seated) (may_ask begin script c o round u.seats u.begun words most valid programs asked room)
 
   pub played : SlicesAreGathered → (new : List Worker) → HaveAllWorked round script c.positions.items was new → HasRun script c o round new
   played gather new worked = has_run gather script c o round u.seats new u.begun (rw u.seated at worked)

@@ -1,6 +1,6 @@
 -- A position is the number of commands answered of its program; the rest of the program is left.
-use Rattle.nmgc_cycle.proofs.Vocabulary.{ℕ, ◌≡◌, ◌+◌, ◌-◌, ◌<◌, ◌≤◌, ◌^◌, List, [], ◌∷◌, length, map, slice_index_or, slice_index, ap, arith, Some, slice_get, length-drop, Command, serial_of, Mutator, Script, Run, Turn, AreTurns, state_after, last_state, program_of, State, Plan, plan_of, start, answered_count, left_is_determined, slice_count, round_left, stop_left, report_cycles, Collector, IsAfterStop, IsInLimits, left_at, slice_few}
-use Rattle.nmgc_cycle.proofs.{lists.Plans.sound_state, lists.RootLists.serial_seen}
+use Rattle.nmgc_cycle.proofs.Vocabulary.{ℕ, ◌≡◌, ◌∙◌, ◌+◌, ◌-◌, ◌<◌, ◌≤◌, List, [], ◌∷◌, length, map, slice_index_or, slice_index, ap, arith, Some, slice_get, length-drop, Command, serial_of, Mutator, Script, Run, Turn, AreTurns, state_after, last_state, program_of, State, Plan, plan_of, start, answered_count, left_is_determined, slice_count, round_left, stop_left, report_cycles, Collector, IsAfterStop, IsInLimits, left_at, slice_few, serials_are_few}
+use Rattle.nmgc_cycle.proofs.{lists.Plans.is_runnable, lists.RootLists.serial_seen}
 
 -- the commands answered and left are the whole program
 turns_count : (plan : Plan) (s : State) (turns : List Turn) (m : ℕ) → AreTurns plan s turns →
@@ -35,12 +35,12 @@ module _ (script : Script) (c : Collector) (run : Run) (still : IsAfterStop scri
       let position = still.kept.positions k exists in
       omega (arith, turns, opening, position)
 
-  -- serials suffice for the commands left
-  pub serial_fits : (m : Mutator) → IsInLimits script → slice_get c.mutators.items k ≡ Some m →
-      m.serial + length (left_at script c.positions.items k) < 2 ^ 32 - 1
-  serial_fits m limits e =
+  -- a mutator made at most one object with each command answered
+  pub serial_few : (m : Mutator) → IsInLimits script → slice_get c.mutators.items k ≡ Some m → m.serial ≤ slice_index c.positions.items k
+  serial_few m limits e =
       let next : m.serial ≡ serial_of (last_state run).world k = still.at_stop.heap.holds.roots.next k m.serial (serial_seen c.mutators.items k m e) in
-      let left : length (program_of (last_state run).left k) ≡ length (left_at script c.positions.items k) =
-      ap (λ (program : List Command). length program) left_is in
-      let most = (sound_state script c run limits still).able.serials k in
-      omega (arith, next, left, most)
+      let few = serials_are_few (plan_of script) run (is_runnable script limits) still.at_stop.is_run k in
+      let left : length (program_of (last_state run).left k) ≡ length (program_of script.threads k) - slice_index c.positions.items k =
+      ap (λ (program : List Command). length program) left_is ∙ length-drop (slice_index c.positions.items k) (program_of script.threads k) in
+      let inside = position_within in
+      omega (arith, next, few, left, inside)

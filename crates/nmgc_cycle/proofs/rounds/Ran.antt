@@ -1,5 +1,5 @@
 -- A round, from its beginning to the end of its slices.
-use Rattle.nmgc_cycle.proofs.{Vocabulary.ℕ, Vocabulary.◌≡◌, Vocabulary.List, Vocabulary.length, Vocabulary.map, Vocabulary.◌∙◌, Vocabulary.Some, Vocabulary.All, Vocabulary.Round, Vocabulary.Opening, Vocabulary.RoundSeat, Vocabulary.IsAt, Vocabulary.CanOpen, Vocabulary.SlicesAreDone, Vocabulary.SlicesAreGathered, Vocabulary.Script, Vocabulary.Run, Vocabulary.last_state, Vocabulary.Collector, Vocabulary.Worker, Vocabulary.IsAfterStop, Vocabulary.IsInLimits, Vocabulary.OpensAt, Vocabulary.OpensIn, Vocabulary.HaveSliceRoom, Vocabulary.CanAllWork, Vocabulary.HaveAllWorked, Vocabulary.workers_of, Vocabulary.mutator_of, Vocabulary.seat_of, rounds.Gathering.AllDid, rounds.Gathering.all_did, rounds.Gathering.slices_done, Vocabulary.HasOpeningLaws, rounds.Opened.IsOpened, rounds.Opened.opened, Vocabulary.MutatorsAreReady, rounds.Readiness.HasSeats, rounds.Readiness.can_all_work, rounds.Readiness.seats_counted, rounds.Readiness.workers_count}
+use Rattle.nmgc_cycle.proofs.{Vocabulary.ℕ, Vocabulary.◌≡◌, Vocabulary.List, Vocabulary.length, Vocabulary.map, Vocabulary.◌∙◌, Vocabulary.Some, Vocabulary.All, Vocabulary.Round, Vocabulary.Opening, Vocabulary.RoundSeat, Vocabulary.IsAt, Vocabulary.CanOpen, Vocabulary.SlicesAreDone, Vocabulary.SlicesAreGathered, Vocabulary.Script, Vocabulary.Run, Vocabulary.last_state, Vocabulary.Collector, Vocabulary.Worker, Vocabulary.IsAfterStop, Vocabulary.IsInLimits, Vocabulary.OpensAt, Vocabulary.OpensIn, Vocabulary.MayBeAsked, Vocabulary.HaveAskRoom, Vocabulary.CanAskAll, Vocabulary.HaveAllWorked, Vocabulary.workers_of, Vocabulary.mutator_of, Vocabulary.seat_of, rounds.Gathering.AllDid, rounds.Gathering.all_did, rounds.Gathering.slices_done, Vocabulary.HasOpeningLaws, rounds.Opened.IsOpened, rounds.Opened.opened, Vocabulary.MutatorsAreReady, rounds.Readiness.HasSeats, rounds.Readiness.can_ask_all, rounds.Readiness.seats_counted, rounds.Readiness.workers_count}
 
 -- the round after a stop may begin
 pub record MayBegin (script : Script) (c : Collector) (o : Opening) : Type 0 where
@@ -35,11 +35,14 @@ pub seats_are : (script : Script) (c : Collector) (o : Opening) (round : Round) 
     length seats ≡ length c.mutators.items
 seats_are script c o round seats b = seats_counted c.mutators.items o b.may.op.hands_are round seats b.has
 
--- the workers may do their slices
-pub may_work : (begin : MutatorsAreReady) (script : Script) (c : Collector) (o : Opening) (round : Round) (seats : List RoundSeat) →
-    HasBegun script c o round seats → HaveSliceRoom script c → CanAllWork round script c.positions.items (workers_of c.mutators.items seats)
-may_work begin script c o round seats b room =
-    can_all_work begin script c b.may.run b.may.limits b.may.still o b.may.op b.may.words (can_open script c o b.may) round seats b.has room
+-- the workers may ask their programs
+pub may_ask : (begin : MutatorsAreReady) (script : Script) (c : Collector) (o : Opening) (round : Round) (seats : List RoundSeat) →
+    HasBegun script c o round seats → {P : Type 0} (words most : P → ℕ) (valid : P → Type 0) (programs : List P) →
+    MayBeAsked words most valid script c.positions.items programs → HaveAskRoom most script.config.slice c.mutators.items programs →
+    CanAskAll words most valid round script.config.slice (workers_of c.mutators.items seats) programs
+may_ask begin script c o round seats b words most valid programs asked room =
+    can_ask_all begin script c b.may.run b.may.limits b.may.still o b.may.op b.may.words (can_open script c o b.may) round seats b.has words most valid
+    programs asked room
 
 pub workers_are : (script : Script) (c : Collector) (o : Opening) (round : Round) (seats : List RoundSeat) → HasBegun script c o round seats →
     length (workers_of c.mutators.items seats) ≡ length c.mutators.items

@@ -1,9 +1,9 @@
 -- As a round begins, each mutator with its seat may do its slice.
-use Rattle.nmgc_cycle.proofs.Vocabulary.{ℕ, zero, suc, ◌≡◌, ◌+◌, ◌<◌, List, [], ◌∷◌, length, map, slice_index, slice_index_or, refl, sym, ap, subst, ◌∙◌, arith, Some, All, slice_get, option_map, length-map, All-drop, slice_get-map, slice_get_within, get_or_from_slice_get, Fits, Layout, Round, Hand, Opening, no_hand, hand_of, RoundSeat, IsAt, opening_of, alone, alones, CanOpen, Mutator, Script, Run, program_of, Collector, Worker, IsAfterStop, IsInLimits, left_at, CanWork, CanAllWork, worker_of, workers_of, HaveSliceRoom, item, of_item, alones_count, MutatorsAreReady}
+use Rattle.nmgc_cycle.proofs.Vocabulary.{ℕ, zero, suc, ◌≡◌, ◌+◌, ◌<◌, List, [], ◌∷◌, length, map, refl, sym, ap, ◌∙◌, arith, Some, All, slice_get, option_map, length-map, slice_get-map, slice_get_within, get_or_from_slice_get, Layout, Round, Hand, Opening, no_hand, hand_of, RoundSeat, IsAt, opening_of, alone, alones, CanOpen, Mutator, Script, Run, Collector, IsAfterStop, IsInLimits, worker_of, workers_of, MayBeAsked, HaveAskRoom, CanAskAll, item, of_item, alones_count, MutatorsAreReady}
 use Rattle.nmgc_round.specs.Seat.{seen}
 use Rattle.nmgc_mutator.specs.Ready.{IsReady}
 use Rattle.nmgc_collector_laws.specs.Rest as rest
-use Rattle.nmgc_cycle.proofs.{rounds.Opened.IsOpened, lists.Plans.good_plan, rounds.Positions.position_within, rounds.Resting.resting}
+use Rattle.nmgc_cycle.proofs.{rounds.Reserving.most_there, rounds.Opened.IsOpened, rounds.Resting.resting}
 
 -- the seats at a round's beginning, by their numbers
 alones_at : (o : Opening) (m : ℕ) (hands : List Hand) (k : ℕ) → k < length hands → slice_get (alones o m hands) k ≡ Some (alone o (m + k))
@@ -24,11 +24,6 @@ pub workers_count : (ms : List Mutator) (seats : List RoundSeat) → length seat
 workers_count [] seats e = refl
 workers_count (m ∷ ms) [] e = absurd (omega arith)
 workers_count (m ∷ ms) (s ∷ seats) e = let rest = workers_count ms seats (omega arith) in omega (arith, rest)
-
--- the commands that are left fit a segment
-left_fits : (script : Script) (limits : IsInLimits script) (positions : List ℕ) (k : ℕ) → All (Fits script.config.words) (left_at script positions k)
-left_fits script limits positions k =
-    All-drop (Fits script.config.words) (slice_index positions k) (program_of script.threads k) ((good_plan script limits).fit k)
 
 pub record HasSeats (o : Opening) (round : Round) (seats : List RoundSeat) : Type 0 where
   pub opened : opening_of round ≡ o
@@ -77,30 +72,28 @@ module _ (begin : MutatorsAreReady) (script : Script) (c : Collector) (run : Run
       begin o words round seat m can has.opened place (seat_alone c.mutators.items o hands round seats has k seat f ∙
       ap (alone o) (sym r.number_is)) (op.layout_is ∙ sym r.layout_is) r.whole r.unused (rw hand (record { registers = refl; queue = refl; serial = refl }))
 
-  pub can_all_work : HaveSliceRoom script c → CanAllWork round script c.positions.items (workers_of c.mutators.items seats)
-  can_all_work room = record {
-    threads_are = sym (count ∙ still.kept.count);
-    positions_are = still.kept.positions_are ∙ sym (count ∙ still.kept.count);
-    within = λ k lt. position_within script c run still k (omega (arith, lt, count, still.kept.count));
-    each = λ k d lt. each k d (omega (arith, lt, count));
+  pub can_ask_all : {P : Type 0} (words most : P → ℕ) (valid : P → Type 0) (programs : List P) →
+      MayBeAsked words most valid script c.positions.items programs → HaveAskRoom most script.config.slice c.mutators.items programs →
+      CanAskAll words most valid round script.config.slice (workers_of c.mutators.items seats) programs
+  can_ask_all words most valid programs asked room = record {
+    count = asked.count ∙ sym (count ∙ still.kept.count);
+    each = λ k w e lt.
+        let m = item c.mutators.items k (omega (arith, lt, count)) in
+        let seat = item seats k (omega (arith, lt, count, count_is)) in
+        let p = item programs k (let n = asked.count in let own = still.kept.count in omega (arith, lt, count, n, own)) in
+        let r = resting script c run limits still k m.0 m.1 in
+        let words_are : m.0.layout.words ≡ script.config.words = ap (λ (l : Layout). l.words) (r.layout_is ∙ still.kept.layout) in
+        let fits = asked.fit k p.0 p.1 in
+        let worker_is = get_or_from_slice_get (workers_of c.mutators.items seats) k (worker_of (m.0, seat.0)) w
+        (workers_at c.mutators.items seats k m.0 seat.0 m.1 seat.1) in
+        let program_is = get_or_from_slice_get programs k p.0 e p.1 in
+        rw worker_is (rw program_is (record {
+          ready = is_ready k m.0 seat.0 m.1 seat.1;
+          valid_is = asked.valid_are k p.0 p.1;
+          fits = omega (arith, fits, words_are);
+          room = rw (most_there most programs k p.0 p.1) at (room k m.0 m.1);
+        }));
   }
     where
       count : length (workers_of c.mutators.items seats) ≡ length c.mutators.items
       count = workers_count c.mutators.items seats count_is
-
-      each : (k : ℕ) (d : Worker) → k < length c.mutators.items →
-          CanWork round script.config.slice (left_at script c.positions.items k) (slice_index_or (workers_of c.mutators.items seats) k d)
-      each k d lt =
-          let m = item c.mutators.items k lt in
-          let seat = item seats k (omega (arith, lt, count_is)) in
-          let r = resting script c run limits still k m.0 m.1 in
-          let words_are : m.0.layout.words ≡ script.config.words = ap (λ (l : Layout). l.words) (r.layout_is ∙ still.kept.layout) in
-          subst (CanWork round script.config.slice (left_at script c.positions.items k))
-          (sym (get_or_from_slice_get (workers_of c.mutators.items seats) k (worker_of (
-            m.0,
-            seat.0,
-          )) d (workers_at c.mutators.items seats k m.0 seat.0 m.1 seat.1))) (record {
-            ready = is_ready k m.0 seat.0 m.1 seat.1;
-            program_is = subst (λ (n : ℕ). All (Fits n) (left_at script c.positions.items k)) (sym words_are) (left_fits script limits c.positions.items k);
-            room = room k m.0 m.1;
-          })

@@ -1,5 +1,5 @@
 -- A step of the loop that makes room in the lists of the mutators.
-use Rattle.nmgc_cycle.proofs.Vocabulary.{ℕ, ◌≡◌, ◌+◌, ◌-◌, ◌<◌, ◌≤◌, List, [], length, min, get_or, slice_index, slice_index_or, inl, inr, sym, ap, subst, ◌∙◌, arith, slice_set, cases_lt, length-drop, get_or_default, get_or-set_same, get_or-set_other, Command, Mutator, Reserves, Script, program_of, left_at, HasLists}
+use Rattle.nmgc_cycle.proofs.Vocabulary.{ℕ, zero, suc, ◌≡◌, ◌∷◌, ◌+◌, ◌<◌, ◌≤◌, List, [], length, get_or, slice_index_or, inl, inr, sym, ap, subst, ◌∙◌, arith, slice_set, cases_lt, get_or_default, get_or-set_same, get_or-set_other, Mutator, Reserves, HasLists, most_at, Some, slice_get}
 
 -- a fact of the new item and of all before it is one of all up to it
 pub up_to : {A : Type 0} (P : ℕ → A → Type 0) (xs : List A) (n : ℕ) (x d : A) → n < length xs → (k : ℕ) → k < n + 1 →
@@ -11,15 +11,21 @@ up_to P xs n x d lt k le before own = elim (cases_lt k n) [
       subst (λ (i : ℕ). P i (slice_index_or (slice_set xs n x) i d)) (sym here) (subst (P n) (sym (get_or-set_same xs n x d lt)) own)
 ]
 
--- the number of commands of the next slice
-pub slice_left : (script : Script) (positions : List ℕ) (n size : ℕ) (program : List Command) → n < length script.threads →
-    program ≡ get_or script.threads n program → size ≡ min (length program - slice_index positions n) script.config.slice →
-    size ≡ min script.config.slice (length (left_at script positions n))
-slice_left script positions n size program lt is e =
-    let own : program ≡ program_of script.threads n = is ∙ get_or_default script.threads n program [] lt in
-    let left : length (left_at script positions n) ≡ length program - slice_index positions n =
-    length-drop (slice_index positions n) (program_of script.threads n) ∙ sym (ap (λ (l : List Command). length l - slice_index positions n) own) in
-    omega (arith, e, left)
+-- the most further commands of a program that is there
+pub most_there : {P : Type 0} (most : P → ℕ) (programs : List P) (k : ℕ) (p : P) → slice_get programs k ≡ Some p → most_at most programs k ≡ most p
+most_there most [] k p e = absurd cc
+most_there most (q ∷ programs) zero p e = let same : q ≡ p = cc in ap most same
+most_there most (q ∷ programs) (suc k) p e = most_there most programs k p e
+
+-- lists with room for more notes
+pub lists_for : (few many : ℕ) (m : Mutator) → few ≤ many → HasLists many m → HasLists few m
+lists_for few many m le h = record {
+  replies = (let a = h.replies in omega (arith, le, a));
+  recorded = (let a = h.recorded in omega (arith, le, a));
+  updrem = (let a = h.updrem in omega (arith, le, a));
+  young_weaks = (let a = h.young_weaks in omega (arith, le, a));
+  finalised = (let a = h.finalised in omega (arith, le, a));
+}
 
 module _ (was now : List Mutator) (n : ℕ) (m next : Mutator) (lt : n < length was) (count : length now ≡ length was) where
   pub kept_more : ((k : ℕ) (d : Mutator) → k < n → k < length was → Reserves (slice_index_or was k d) (slice_index_or now k d)) →

@@ -2,7 +2,6 @@
 use Rattle.nmgc_cycle.proofs.Vocabulary.{ℕ, ◌≡◌, ◌+◌, ◌≤◌, ◌<◌, List, [], ◌∷◌, length, sym, ap, subst, ◌∙◌, inl, inr, arith, Contains, cases_lt, World, Name, contains_head, contains_tail, nursery_place, AllocState, HasBlock, SweepsSome, StandsFor, counts_stand, Place, LieInOrder, Remembers, Opening, Script, DropsFreed, FreesUntracked, Sweeper, AreLeft, IsAtWork, IsKeptIn, Cycle, AreNurseries, IsLastBegun, HoldsAfterRound, snapshots, AreSettled, noted, IsRound, SweepsBeside, ends_of, nurseries_of, recorded_in, young_weaks_in, Progress, sweeping, waiting_count, runs_are, named_swept, Collector, HasSweptSome, Sweeps, seen, died, phase_in, sweeper_in, min}
 use Rattle.nmgc_segment.specs.declared.state.State.TheVariants as stands
 use Rattle.nmgc_alloc.specs.Reserve as reserve
-use Rattle.nmgc_cycle.specs.declared.progress.Progress as held
 use Rattle.nmgc_cycle.specs.declared.progress.Progress.TheVariants as doing
 use Rattle.nmgc_cycle.specs.declared.progress.Sweeping as held_sweeping
 use Rattle.nmgc_cycle.proofs.{Vocabulary.HasRoundLaws, rounds.GoneOn.HasGoneOn, rounds.ListedLeft.listed_left, rounds.MarkedBeside.phase_with, rounds.MarkedBeside.helped_as, rounds.Over.IsOver, rounds.Over.plan, rounds.Over.s, rounds.Over.w, rounds.Over.t, rounds.Over.rows, rounds.Over.places, rounds.Over.reported, rounds.Over.last, rounds.Over.shown, rounds.Over.view, lists.Phases.when_sweeping, lists.Phases.noted_snapshots, lists.Plans.is_runnable, lists.Plans.sound_state, rounds.RoundOver.layout, rounds.RoundOver.nurseries_left, rounds.RoundOver.in_order, rounds.RoundOver.remembered, rounds.RoundOver.finalised_listed, rounds.RoundOver.round_from, rounds.Rounded.is_round}

@@ -1,5 +1,5 @@
 -- The list over a promotion: finalised weak pointers leave it, and those that moved and are alive join it.
-use Rattle.nmgc_cycle.proofs.Vocabulary.{ℕ, ◌≡◌, ◌≢◌, ◌^◌, ◌<◌, ◌≤◌, ◌⊎◌, List, [], ◌∷◌, Bool, true, false, cond, length, map, refl, sym, ap, subst, ◌∙◌, arith, inl, inr, slice_index, mul-le-mul_right, ◌*◌, ◌+◌, Contains, filter, not, ◌==◌, ◌&&◌, and_parts, length-map, length-filter, count_by-le-length, Name, SHARED_MAKER, Parts, IsAlive, IsBefore, IsInOrder, node_of, is_some_of, contains_map, map_contains, filter_had, filter_keeps, in_order_cons, in_order_first, in_order_rest, header_word, InSegment, NAME_OFFSET, segment_low, Layout, StandsFor, Segments, IsSegments, KeepsMarks, PlacesEach, Moved, new_place, old_place, settled, IsFor, HaveNoted, promoted_by, Place, ListsWeaks, settled_comes, Stopped, IsStopped, IsSettled, young_base, is_block, JoiningLists, JoinersAreNew, HaveMoved, HaveJoinedList, IsAliveAt, weak_header, moved_of, Move, OldWeak, LeavingLists, Weaks, alive_of, is_alive, names_of, place_of, places_of, value_place, recorded_of, finalised_of, Collector, CanJoin, FinalisedAreListed, FinalisedLeft, MovedJoined, is_alive_at, listed_move, moved_weaks, words_in, CanList, HasListed, HasPromoted, StandsStopped, moves_of, young_weaks_of, true_eq, of_places, names_same, names_moved, eq-eqb, ne_eqb}
+use Rattle.nmgc_cycle.proofs.Vocabulary.{ℕ, ◌≡◌, ◌≢◌, ◌^◌, ◌<◌, ◌≤◌, ◌⊎◌, List, [], ◌∷◌, Bool, true, false, cond, length, map, refl, sym, ap, subst, ◌∙◌, arith, inl, inr, slice_index, mul-le-mul_right, ◌*◌, ◌+◌, Contains, filter, not, ◌==◌, ◌&&◌, and_parts, length-map, length-filter, count_by-le-length, Name, SHARED_MAKER, Parts, IsAlive, IsBefore, IsInOrder, node_of, is_some_of, contains_map, map_contains, filter_had, filter_keeps, in_order_cons, in_order_first, in_order_rest, header_word, InSegment, NAME_OFFSET, segment_low, Layout, StandsFor, Segments, IsSegments, KeepsMarks, PlacesEach, Moved, new_place, old_place, IsFor, HaveNoted, promoted_by, Place, ListsWeaks, settled_comes, Stopped, IsStopped, IsSettled, young_base, is_block, JoiningLists, JoinersAreNew, HaveMoved, HaveJoinedList, IsAliveAt, weak_header, moved_of, Move, OldWeak, LeavingLists, Weaks, alive_of, is_alive, names_of, place_of, places_of, value_place, recorded_of, finalised_of, Collector, CanJoin, FinalisedAreListed, FinalisedLeft, MovedJoined, is_alive_at, listed_move, moved_weaks, words_in, CanList, HasListed, HasPromoted, StandsStopped, moves_of, young_weaks_of, true_eq, of_places, names_same, names_moved, eq-eqb, ne_eqb}
 use Rattle.std.specs.List.{count_by}
 use Rattle.nmgc_collector_laws.specs.Worked.{registers_of, queues_of, nurseries_of}
 

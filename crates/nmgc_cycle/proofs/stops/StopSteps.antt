@@ -134,7 +134,7 @@ module _ (laws : HasStopLaws) (script : Script) (old p : Collector) (limits : Is
             (left_sweeping close_led.0 c close_led.0.progress close_led.2.matches.phase close_led.2.sweeper)
 
         -- no row was added yet
-        ended_reported : reported e ≡ reported old
+        pub ended_reported : reported e ≡ reported old
         ended_reported = (end_reported number c.cycle.progress c e ends).0 ∙ ap reported closed.rest ∙ ap reported taken.rest ∙ ap reported h.rest
 
         left_on : last_ended.left ≡ b.state.left

@@ -1,9 +1,9 @@
 -- If the commands of a cycle's last round owed nothing, its found objects are exactly its steady objects.
 use Rattle.std.specs.Prelude.{◌⊎◌, IfSome, IsSome, All, Contains}
-use Rattle.std.proofs.Common.{◌≡◌, ◌≢◌, ◌<◌, ◌++◌, ◌∷◌, ◌∙◌, ℕ, List, [], refl, sym, ap, subst, inl, inr, append-nil, append_assoc, Option, Some, None}
+use Rattle.std.proofs.Common.{◌≡◌, ◌≢◌, ◌++◌, ◌∷◌, ◌∙◌, ℕ, List, [], refl, sym, ap, subst, inl, inr, append-nil, append_assoc, Option, Some, None}
 use Rattle.nmgc_run_laws.specs.laws.Vocabulary.{at_some, contains_head, contains_tail, is_some_of, some_of, Name, Node, World, IsWorld, node_of, state_of, shared_name, SHARED_MAKER, step, step_keeps_world, Row, replayed, RefersTo, CanReplay, Cycle, interval_of}
 use Rattle.nmgc_lists.specs.laws.Items.{contains_flat, contains_one}
-use Rattle.nmgc_world_spec.specs.{Reach.HoldsThroughout, Reach.name_in, Reach.owed_by, Reach.values_owed, Reach.HasStrongField, Reach.IsRoot, Reach.strong_fields, World.next_name, declared.value.Value.Value, laws.Orders.name_cases}
+use Rattle.nmgc_world_spec.specs.{Reach.HoldsThroughout, Reach.name_in, Reach.owed_by, Reach.values_owed, Reach.HasStrongField, Reach.strong_fields, World.next_name, declared.value.Value.Value, laws.Orders.name_cases}
 use Rattle.nmgc_world_spec.specs.declared.value.Value.TheVariants as value
 use Rattle.nmgc_world_laws.specs.{Holds.CoversReach, Holds.Fields, Holds.Names, Reachable.IsSound, laws.Barrier.field_at_place, laws.Barrier.place_of_field, laws.NodeLaws.next_is_new, laws.WeakMoves.all_moves, laws.WeakMoves.opened_owed, laws.Worlds.not_shared}
 use Rattle.std.proofs.lemmas.List.Elements.{All-cons, All-contains, All-nil, Contains-append_left, Contains-append_right}

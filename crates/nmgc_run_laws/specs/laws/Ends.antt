@@ -1,12 +1,12 @@
 -- At the end of a run the heap at the end and the heap at the last stop say the same.
 --
 -- Only names of the world lie in blocks, blocks lie apart, and each within its segment. So objects that fit their blocks lie apart too.
-use Rattle.std.specs.Prelude.{◌≡◌, ◌≢◌, ◌⊎◌, ◌+◌, ◌*◌, ◌/◌, ◌<◌, ◌≤◌, ◌∷◌, slice_index, map}
-use Rattle.nmgc_run_laws.specs.laws.Vocabulary.{ℕ, List, [], length, arith, refl, sym, ap, subst, ◌∙◌, inl, inr, true, Some, Contains, contains_cases, contains_head, contains_tail, nothing_in, Name, World, IsWorld, Node, node_of, shared_name, IsWide, IsInOrder, begins, SHARED_MAKER, name_word, Layout, block_size, nursery_place, large, nth, block_place, HasNumber, StandsFor, AllocState, Cells, LiesIn, cells, name_in, none_some, Place, shared_place, Represents, NoNode, IsTracked, tracked_wide, IsBlockPlace, MutatorEnd, slice_get, Report, Script, FitsScript, HasFewCommands, Plan, State, Progress, idle, marking, sweeping, is_idle, plan_of, layout_of, snapshots, last_state, HoldsAtStop, AreSoundBlocks, LieKnown}
+use Rattle.std.specs.Prelude.{◌≡◌, ◌≢◌, ◌⊎◌, ◌+◌, ◌*◌, ◌<◌, ◌≤◌, ◌∷◌, slice_index, map}
+use Rattle.nmgc_run_laws.specs.laws.Vocabulary.{ℕ, List, [], length, arith, refl, sym, ap, subst, ◌∙◌, inl, inr, true, Some, Contains, contains_cases, contains_head, contains_tail, nothing_in, Name, World, IsWorld, Node, node_of, shared_name, IsWide, IsInOrder, begins, SHARED_MAKER, name_word, Layout, block_size, nursery_place, large, nth, block_place, HasNumber, StandsFor, AllocState, Cells, LiesIn, cells, name_in, none_some, Place, shared_place, Represents, NoNode, IsTracked, tracked_wide, IsBlockPlace, MutatorEnd, slice_get, Report, Script, FitsScript, HasFewCommands, Plan, State, Progress, idle, marking, sweeping, is_idle, plan_of, layout_of, snapshots, last_state, AreSoundBlocks, LieKnown}
 use Rattle.std.proofs.{Common.lit≤, Common.lit<, Math.Nat.mul-le-mul_right, lemmas.Bool.cases_order}
 use Rattle.nmgc_lists.specs.laws.{Items.contains_map, Items.map_contains, Options.some_is}
 use Rattle.nmgc_world_spec.specs.{declared.node.Node.TheVariants.Con, declared.node.Node.TheVariants.Var, declared.node.Node.TheVariants.Arr, declared.node.Node.TheVariants.Thunk, declared.node.Node.TheVariants.Weak, declared.node.Node.TheVariants.Stack, declared.node.Parts.Parts, World.IsShared, Reach.IsAlive, Reach.IsAliveWeak}
-use Rattle.nmgc_object.specs.{declared.layout.TheConstants.FIRST_PLACE, declared.size.TheConstants.HEADER_WORDS, Words.header_word, Words.IsHeader, Words.InSegment, Words.InNursery, Words.word_total}
+use Rattle.nmgc_object.specs.{declared.size.TheConstants.HEADER_WORDS, Words.header_word, Words.IsHeader, Words.InSegment, Words.InNursery, Words.word_total}
 use Rattle.nmgc_alloc.specs.laws.Placing.{fits, step}
 use Rattle.nmgc_heap_spec.specs.{Objects.header_of, Objects.size_of, Objects.LiesInSegment, Represents.IsNamed, Represents.IsObject, Represents.IsPlaced, Roots.IsListedWeak, laws.Roots.wide_tracked, laws.Written.world_is_written}
 use Rattle.nmgc_run_spec.specs.{AtStop.HasHeapOfStop, AtStop.IsLawfulAtStop, Lawful.IsLawful, Lawful.HasObject, Lawful.IsMutatorAtEnd, Lawful.HoldsAtEnd}

@@ -32,7 +32,7 @@ beginning_left : (config : Config) (s t : State) → BeginsOrWaits config s t �
 beginning_left config s t (inl h) = ap (λ (x : State). x.left) h.1
 beginning_left config s t (inr h) = same_left s t h.1
 
-proceeding_left : (plan : Plan) (s t : State) (cycles : List CycleRow) → Proceeds plan s t cycles → t.left ≡ s.left
+pub proceeding_left : (plan : Plan) (s t : State) (cycles : List CycleRow) → Proceeds plan s t cycles → t.left ≡ s.left
 proceeding_left plan s t cycles (inl h) = full_left s t cycles h.1
 proceeding_left plan s t cycles (inr h) = beginning_left plan.config s t h.1
 

@@ -1,11 +1,11 @@
 -- The roots of all mutators in one list are the roots of each mutator.
 use Rattle.std.specs.Prelude.{◌≡◌, ◌+◌, ◌*◌, ◌<◌, ◌++◌, ◌∷◌}
-use Rattle.nmgc_run_laws.specs.laws.Vocabulary.{ℕ, zero, suc, List, [], length, map, arith, refl, sym, ap, subst, ◌∙◌, Some, Contains, slice_get, slice_index, get_or, All, All-head, All-tail, length-append, length-map, slice_get_within, World, IsWorld, MutatorEnd, Place, state_of, serial_of}
+use Rattle.nmgc_run_laws.specs.laws.Vocabulary.{ℕ, zero, suc, List, [], length, map, arith, refl, sym, ap, subst, ◌∙◌, Some, Contains, slice_get, slice_index, get_or, All, All-head, All-tail, length-append, length-map, slice_get_within, World, IsWorld, MutatorEnd, Place, state_of}
 use Rattle.std.proofs.lemmas.{List.get_or-append-add, List.get_or_append_left, Option.slice_get-get_or}
 use Rattle.nmgc_limits.specs.declared.mutators.TheConstants.{REGISTERS}
 use Rattle.nmgc_lists.specs.laws.{Items.item_map, Items.of_item, Options.some_is}
 use Rattle.nmgc_world_spec.specs.declared.value.Value.{Value}
-use Rattle.nmgc_heap_spec.specs.{Objects.Means, Objects.ListMeans, Objects.AllMean, Roots.RepresentsRoots}
+use Rattle.nmgc_heap_spec.specs.{Objects.Means, Objects.ListMeans, Roots.RepresentsRoots}
 use Rattle.nmgc_run_spec.specs.{Lawful.IsMutatorAtEnd, Terms.HasAllRegisters, Terms.registers_of, Terms.queues_of, Terms.serials_of}
 
 module _ (P : Place → Type 0) where

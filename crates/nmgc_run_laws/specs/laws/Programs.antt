@@ -93,6 +93,18 @@ module _ (plan : Plan) (s t : State) (replies : List (List Reply)) (rows : List 
       below : (serial own slice left limit : ℕ) → own ≤ slice → slice ≤ left → serial + left < limit → serial + own ≤ limit - 1
       below serial own slice left limit a b c = omega (arith, a, b, c)
 
+  -- a command makes at most one object
+  pub serials_after : (m : ℕ) → serial_of (replayed s.world rows) m + lefts t m ≤ serial_of s.world m + length (program_of s.left m)
+  serials_after m =
+      let left : program_of t.left m ≡ drop (length (slice_index_or replies m [])) (program_of s.left m) = round_left plan.config s t replies rows m round in
+      let count : lefts t m ≡ length (program_of s.left m) - length (slice_index_or replies m []) =
+      ap (λ (program : List Command). length program) left ∙ length-drop (length (slice_index_or replies m [])) (program_of s.left m) in
+      let made = rows_count s.world rows h.world can_replay m in
+      let own = own_few m in
+      let many = slice_count plan.config s t replies rows m round in
+      let few = slice_few plan.config.slice plan.config.nursery (program_of s.left m) in
+      omega (arith, count, made, own, many, few)
+
   pub made_after : (m : ℕ) → serial_of (replayed s.world rows) m + lefts t m < 2 ^ 32 - 1
   made_after m =
       let left : program_of t.left m ≡ drop (length (slice_index_or replies m [])) (program_of s.left m) = round_left plan.config s t replies rows m round in

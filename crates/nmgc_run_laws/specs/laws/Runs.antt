@@ -29,7 +29,7 @@ turns_hold plan s (turn ∷ turns) i able h = let next = turn_holds plan s turn 
 
 -- the beginning: no object was made
 
-new_serial : (mutators m : ℕ) → serial_of (new_world mutators) m ≡ 0
+pub new_serial : (mutators m : ℕ) → serial_of (new_world mutators) m ≡ 0
 new_serial mutators m = each_new (λ (state : MutatorState). length state.nodes ≡ 0) refl refl mutators m
 
 only_shared : (mutators : ℕ) (n : Name) → IsSome (node_of (new_world mutators) n) → n ≡ shared_name

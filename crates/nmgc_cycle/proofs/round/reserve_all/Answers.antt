@@ -1,27 +1,34 @@
-use Rattle.nmgc_cycle.proofs.{Vocabulary.ℕ, Vocabulary.◌≡◌, Vocabulary.List, Vocabulary.length, Vocabulary.min, Vocabulary.get_or, Vocabulary.subst, Vocabulary.sym, Vocabulary.ap, Vocabulary.◌∙◌, Vocabulary.arith, Vocabulary.Command, Vocabulary.left_at, Vocabulary.HasLists, rounds.Reserving.slice_left, rounds.Reserving.kept_more, rounds.Reserving.room_more, rounds.Reserving.after_more}
+use Rattle.nmgc_cycle.proofs.{Vocabulary.ℕ, Vocabulary.◌≡◌, Vocabulary.◌≤◌, Vocabulary.length, Vocabulary.min, Vocabulary.refl, Vocabulary.arith, Vocabulary.slice_get_read, Vocabulary.HasLists, Vocabulary.most_at, rounds.Reserving.most_there, rounds.Reserving.lists_for, rounds.Reserving.kept_more, rounds.Reserving.room_more, rounds.Reserving.after_more}
 use Rattle.nmgc_cycle.proofs.round.reserve_all.Goals as goal
 
+pub at_most-requires : goal.at_most-requires
+at_most-requires g c =
+    let programs = c.args.programs.now in
+    let n = c.loop-number.number in
+    let lt = c.loop-number-test.true in
+    let size = c.requires.count in
+    c.requires.valid n c.index-programs-number.result
+    (slice_get_read programs (length programs) n c.index-programs-number.result refl (omega (arith, lt, size)) c.index-programs-number.is)
+
 pub loop-number-preserved : goal.loop-number-preserved
-loop-number-preserved c =
+loop-number-preserved g c =
     let was = c.args.mutators.now in
     let now = c.loop-number.mutators in
     let n = c.loop-number.number in
-    let m = c.index-mutators-number.result in
     let next = c.reserve.new.self in
-    let script = c.args.script.now in
-    let positions = c.args.positions.now in
     let before = c.loop-number.invariant in
     let lt = c.loop-number-test.true in
     let count = c.loop-number.auto.mutators in
-    let program = c.items-program.result.now in
     let own = c.in_ok-reserve.ensures in
-    let threads = c.requires.threads in
-    let same : program ≡ c.index-items-number.result = c.items-program.ensures in
-    let is : program ≡ get_or script.threads n program = subst (λ (l : List Command). l ≡
-    get_or script.threads n l) (sym same) (c.index-items-number.is ∙
-    ap (λ (ls : List (List Command)). get_or ls n c.index-items-number.result) c.items.ensures) in
-    let size : c.min.result ≡ min script.config.slice (length (left_at script positions n)) =
-    slice_left script positions n c.min.result program (omega (arith, lt, threads)) is c.min.ensures in
+    let programs = c.args.programs.now in
+    let p = c.index-programs-number.result in
+    let size = c.requires.count in
+    let there : most_at g.P.Program.most programs n ≡ g.P.Program.most p =
+    most_there g.P.Program.most programs n p (slice_get_read programs (length programs) n p refl (omega (arith, lt, size)) c.index-programs-number.is) in
+    let bound = c.at_most.ensures in
+    let least = c.min.ensures in
+    let small = c.requires.slice in
+    let enough : min c.args.slice (most_at g.P.Program.most programs n) ≤ c.min.result = omega (arith, there, bound, least, small) in
     let room : HasLists c.min.result next = record {
       replies = own.room.0;
       recorded = own.room.1;
@@ -30,8 +37,8 @@ loop-number-preserved c =
       finalised = own.room.3;
     } in
     record {
-      kept = kept_more was now n m next lt count before.kept before.after own.kept;
-      room = room_more was now n m next lt count (λ (k : ℕ).
-          min script.config.slice (length (left_at script positions k))) before.room (subst (λ (most : ℕ). HasLists most next) size room);
-      after = after_more was now n m next lt count before.after;
+      kept = kept_more was now n c.index-mutators-number.result next lt count before.kept before.after own.kept;
+      room = room_more was now n c.index-mutators-number.result next lt count (λ (k : ℕ). min c.args.slice (most_at g.P.Program.most programs k)) before.room
+          (lists_for (min c.args.slice (most_at g.P.Program.most programs n)) c.min.result next enough room);
+      after = after_more was now n c.index-mutators-number.result next lt count before.after;
     }

@@ -1,35 +1,44 @@
-use Rattle.nmgc_cycle.proofs.{Vocabulary.ℕ, Vocabulary.◌≡◌, Vocabulary.◌*◌, Vocabulary.◌≤◌, Vocabulary.◌∙◌, Vocabulary.List, Vocabulary.length, Vocabulary.min, Vocabulary.get_or, Vocabulary.refl, Vocabulary.subst, Vocabulary.sym, Vocabulary.ap, Vocabulary.arith, Vocabulary.Command, Vocabulary.polled_all_none, Vocabulary.polled_all_then, Vocabulary.in_blocks, Vocabulary.left_at, Vocabulary.MOST_PUSHED, rounds.InboxRoom.inbox_more, rounds.Lining.all_reserved, rounds.Reserving.slice_left}
+use Rattle.nmgc_cycle.proofs.{Vocabulary.ℕ, Vocabulary.◌≡◌, Vocabulary.◌*◌, Vocabulary.◌≤◌, Vocabulary.◌∙◌, Vocabulary.length, Vocabulary.min, Vocabulary.refl, Vocabulary.arith, Vocabulary.slice_get_read, Vocabulary.polled_all_none, Vocabulary.polled_all_then, Vocabulary.in_blocks, Vocabulary.most_at, Vocabulary.MOST_PUSHED, rounds.InboxRoom.inbox_more, rounds.Lining.all_reserved, rounds.Reserving.most_there}
+use Rattle.std.proofs.lemmas.Grind.{div_ceil_times}
 use Rattle.nmgc_cycle.proofs.round.reserve_inbox.Goals as goal
 
+pub at_most-requires : goal.at_most-requires
+at_most-requires g c =
+    let programs = c.args.programs.now in
+    let n = c.loop-number.number in
+    let lt = c.loop-number-test.true in
+    c.requires.valid n c.index-programs-number.result
+    (slice_get_read programs (length programs) n c.index-programs-number.result refl lt c.index-programs-number.is)
+
 pub loop-number-init : goal.loop-number-init
-loop-number-init c = record { polled = polled_all_none c.args.inbox.now; count = refl; room = λ k r lt at. absurd (omega (arith, lt)) }
+loop-number-init g c = record { polled = polled_all_none c.args.inbox.now; count = refl; room = λ k r lt at. absurd (omega (arith, lt)) }
 
 pub loop-number-preserved : goal.loop-number-preserved
-loop-number-preserved c =
+loop-number-preserved g c =
     let n = c.loop-number.number in
     let old = c.loop-number.inbox in
     let new = c.reserve.new.self in
-    let script = c.args.script.now in
-    let positions = c.args.positions.now in
     let before = c.loop-number.invariant in
     let lt = c.loop-number-test.true in
-    let threads = c.requires.threads in
-    let at = c.requires.positions in
-    let program = c.items-program.result.now in
-    let same : program ≡ c.index-items-number.result = c.items-program.ensures in
-    let is : program ≡ get_or script.threads n program = subst (λ (l : List Command). l ≡
-    get_or script.threads n l) (sym same) (c.index-items-number.is ∙
-    ap (λ (ls : List (List Command)). get_or ls n c.index-items-number.result) c.items.ensures) in
-    let size : c.min-commands.result ≡ min script.config.slice (length (left_at script positions n)) =
-    slice_left script positions n c.min-commands.result program (omega (arith, lt, threads, at)) is (c.min-commands.ensures ∙
-    ap (λ (left : ℕ). min left script.config.slice) c.saturating_sub-left.ensures) in
+    let programs = c.args.programs.now in
+    let p = c.index-programs-number.result in
+    let there : most_at g.P.Program.most programs n ≡ g.P.Program.most p =
+    most_there g.P.Program.most programs n p (slice_get_read programs (length programs) n p refl lt c.index-programs-number.is) in
+    let bound = c.at_most.ensures in
+    let least = c.min-commands.ensures in
+    let small = c.requires.slice in
+    let many : min c.args.slice (most_at g.P.Program.most programs n) ≤ c.min-commands.result = omega (arith, there, bound, least, small) in
     let blocks = c.div_ceil-blocks.ensures in
-    let enough : in_blocks (MOST_PUSHED * min script.config.slice (length (left_at script positions n))) ≤ c.div_ceil-blocks.result * 64 =
-    subst (λ (most : ℕ). in_blocks (MOST_PUSHED * most) ≤ c.div_ceil-blocks.result * 64) size (omega (arith, blocks)) in
+    let least_blocks = div_ceil_times (MOST_PUSHED * min c.args.slice (most_at g.P.Program.most programs n)) 64 (omega arith) in
+    let most_blocks = div_ceil_times (MOST_PUSHED * c.min-commands.result) 64 (omega arith) in
+    let low = least_blocks.1 in
+    let high = most_blocks.0 in
+    let enough : in_blocks (MOST_PUSHED * min c.args.slice (most_at g.P.Program.most programs n)) ≤ c.div_ceil-blocks.result * 64 =
+    omega (arith, blocks, many, low, high) in
     let more = all_reserved _ n old new c.in_ok-reserve.ensures.ok in
     record {
       polled = polled_all_then c.args.inbox.now old new before.polled more;
       count = more.count ∙ before.count;
-      room = inbox_more (λ (k : ℕ).
-          in_blocks (MOST_PUSHED * min script.config.slice (length (left_at script positions k)))) n _ old new c.in_ok-reserve.ensures.ok enough before.room;
+      room = inbox_more (λ (k : ℕ). in_blocks (MOST_PUSHED * min c.args.slice (most_at g.P.Program.most programs k))) n _ old new
+          c.in_ok-reserve.ensures.ok enough before.room;
     }

@@ -1,33 +1,65 @@
-use Rattle.nmgc_cycle.proofs.{Vocabulary.◌∙◌, Vocabulary.ap, Vocabulary.sym, Vocabulary.subst, Vocabulary.◌≡◌, Vocabulary.passed, Vocabulary.worked_on, Vocabulary.upper_worked_on, Vocabulary.turns_of, Vocabulary.upper_turns_of, Vocabulary.Collector, lists.Plans.is_runnable, rounds.InboxOn.lines_of, rounds.InboxOn.round_met, rounds.Meeting.all_in_order, stops.Tried.met_tried}
+use Rattle.nmgc_cycle.proofs.{Vocabulary.ℕ, Vocabulary.◌∙◌, Vocabulary.List, Vocabulary.[], Vocabulary.inl, Vocabulary.refl, Vocabulary.sym, Vocabulary.ap, Vocabulary.subst, Vocabulary.length, Vocabulary.Script, Vocabulary.HasStopped, Vocabulary.DidRound, Vocabulary.HaveTried, Vocabulary.CanContinue, Vocabulary.Continues, Vocabulary.IsInLimits, Vocabulary.MayBeAsked, Vocabulary.AreListed, rounds.ListedRounds.same_script, rounds.ListedRounds.listed_next, rounds.ListedRounds.listed_steps, rounds.ListedRounds.listed_words, rounds.ListedRounds.listed_most, rounds.ListedRounds.listed_valid, rounds.ListedRounds.lists_may, rounds.ListedRounds.lists_can, rounds.ListedRounds.lists_continue, rounds.RoundWorked.on_ok, rounds.Positions.position_within}
 use Rattle.nmgc_cycle.proofs.collector.Collector.round.Goals as goal
 
-pub meet_all-requires : goal.meet_all-requires
-meet_all-requires g c = lines_of c.args.script.now c.do_round.new.self (is_runnable c.args.script.now c.requires.limits).few c.in_ok-do_round.ensures.worked.0.kept
+pub listed-requires : goal.listed-requires
+listed-requires g c = ap (λ (l : List ℕ). length l) c.as_slice.ensures.value ∙ c.requires.stopped.0.1.kept.positions_are
+
+pub round_programs-requires-clause-limits : goal.round_programs-requires-clause-limits
+round_programs-requires-clause-limits g c κs out = subst IsInLimits (sym c.known_before.ensures) c.requires.limits
+
+pub round_programs-requires-clause-config : goal.round_programs-requires-clause-config
+round_programs-requires-clause-config g c κs out = ap (λ (s : Script). s.config) (sym c.known_before.ensures)
+
+pub round_programs-requires-clause-stopped : goal.round_programs-requires-clause-stopped
+round_programs-requires-clause-stopped g c κs out = (
+  subst (λ (s : Script). HasStopped s c.args.self.now) (sym c.known_before.ensures) c.requires.stopped.0,
+  c.requires.stopped.1,
+)
+
+pub round_programs-requires-clause-programs : goal.round_programs-requires-clause-programs
+round_programs-requires-clause-programs g c κs out =
+    let script = c.args.script.now in
+    let are : AreListed script c.args.self.now.positions.items c.as_mut_slice.result.now =
+    subst (AreListed script c.args.self.now.positions.items) (sym c.as_mut_slice.ensures.value)
+    (subst (λ (l : List ℕ). AreListed script l c.in_ok-programs.programs.items) c.as_slice.ensures.value c.in_ok-programs.ensures) in
+    subst (λ (s : Script). MayBeAsked listed_words listed_most listed_valid s c.args.self.now.positions.items c.as_mut_slice.result.now)
+    (sym c.known_before.ensures) (lists_may script c.args.self.now.positions.items c.as_mut_slice.result.now c.requires.limits are
+    (λ k lt. position_within script c.args.self.now c.requires.stopped.0.0 c.requires.stopped.0.1 k lt))
+
+pub round_programs-requires-clause-continues : goal.round_programs-requires-clause-continues
+round_programs-requires-clause-continues g c κs out =
+    let script = c.args.script.now in
+    let are : AreListed script c.args.self.now.positions.items c.as_mut_slice.result.now =
+    subst (AreListed script c.args.self.now.positions.items) (sym c.as_mut_slice.ensures.value)
+    (subst (λ (l : List ℕ). AreListed script l c.in_ok-programs.programs.items) c.as_slice.ensures.value c.in_ok-programs.ensures) in
+    subst (λ (s : Script). CanContinue listed_next listed_steps listed_words listed_most listed_valid s c.args.self.now.positions.items
+    c.as_mut_slice.result.now) (sym c.known_before.ensures)
+    (lists_can script c.args.self.now.positions.items c.as_mut_slice.result.now c.requires.limits are)
 
 pub returns-clause-worked : goal.returns-clause-worked
 returns-clause-worked g c =
-    round_met c.args.script.now c.args.self.now c.do_round.new.self c.meet_all.new.self _ c.meet_all.ensures.rest c.meet_all.ensures.met c.in_ok-do_round.ensures.worked
-
-pub returns-clause-reported : goal.returns-clause-reported
-returns-clause-reported g c = let t = c.in_ok-do_round.ensures.reported in (t.0, ap (λ (x : Collector). x.rows.rounds) c.meet_all.ensures.rest ∙ t.1)
-
-pub returns-clause-stops : goal.returns-clause-stops
-returns-clause-stops g c = ap (λ (x : Collector). x.rows.stops) c.meet_all.ensures.rest ∙ c.in_ok-do_round.ensures.stops
+    let script = c.args.script.now in
+    let are : AreListed script c.args.self.now.positions.items c.as_mut_slice.result.now =
+    subst (AreListed script c.args.self.now.positions.items) (sym c.as_mut_slice.ensures.value)
+    (subst (λ (l : List ℕ). AreListed script l c.in_ok-programs.programs.items) c.as_slice.ensures.value c.in_ok-programs.ensures) in
+    on_ok c.round_programs.result c.round_programs.ensures.worked (λ asked.
+    let same = same_script c.known_before.result.value ∙ c.known_before.ensures in
+    let on = lists_continue script c.args.self.now.positions.items c.as_mut_slice.result.now c.requires.limits are c.round_programs.new.programs asked.done
+    asked.gave in
+    subst (λ (s : Script). DidRound s c.args.self.now c.round_programs.new.self) same (asked.did [] (λ k lt. inl refl)
+    (subst (λ (s : Script). Continues listed_next s c.args.self.now.positions.items c.round_programs.new.programs asked.done) (sym same) on)
+    (subst IsInLimits (sym same) c.requires.limits)).0)
 
 pub returns-clause-mutator_turns : goal.returns-clause-mutator_turns
 returns-clause-mutator_turns g c =
-    met_tried c.args.script.now c.args.self.now c.do_round.new.self c.meet_all.new.self _ c.meet_all.ensures.rest c.meet_all.ensures.met
-    c.in_ok-do_round.ensures.mutator_turns
-
-pub returns-clause-turns : goal.returns-clause-turns
-returns-clause-turns g c = subst (λ (x : Collector). turns_of x ≡
-    passed (turns_of c.args.self.now) (worked_on c.args.self.now.cycle.progress x.cycle.progress)) (sym c.meet_all.ensures.rest) c.in_ok-do_round.ensures.turns
-
-pub returns-clause-upper_turns : goal.returns-clause-upper_turns
-returns-clause-upper_turns g c = subst (λ (x : Collector). upper_turns_of x ≡
-    passed (upper_turns_of c.args.self.now) (upper_worked_on c.args.self.now.cycle.progress x.cycle.progress)) (sym c.meet_all.ensures.rest)
-    c.in_ok-do_round.ensures.upper_turns
-
-pub returns-clause-remembered : goal.returns-clause-remembered
-returns-clause-remembered g c =
-    all_in_order c.do_round.new.self.inbox c.meet_all.new.self.inbox c.do_round.new.self.mutators.items c.meet_all.new.self.mutators.items c.meet_all.ensures.met
+    let script = c.args.script.now in
+    let are : AreListed script c.args.self.now.positions.items c.as_mut_slice.result.now =
+    subst (AreListed script c.args.self.now.positions.items) (sym c.as_mut_slice.ensures.value)
+    (subst (λ (l : List ℕ). AreListed script l c.in_ok-programs.programs.items) c.as_slice.ensures.value c.in_ok-programs.ensures) in
+    on_ok c.round_programs.result c.round_programs.ensures.worked (λ asked.
+    let same = same_script c.known_before.result.value ∙ c.known_before.ensures in
+    let on = lists_continue script c.args.self.now.positions.items c.as_mut_slice.result.now c.requires.limits are c.round_programs.new.programs asked.done
+    asked.gave in
+    subst (λ (s : Script). HaveTried s c.args.self.now c.round_programs.new.self) same (asked.did [] (λ k lt. inl refl)
+    (subst (λ (s : Script). Continues listed_next s c.args.self.now.positions.items c.round_programs.new.programs asked.done) (sym same) on)
+    (subst IsInLimits (sym same) c.requires.limits)).1)

@@ -1,184 +1,35 @@
-use Rattle.nmgc_cycle.proofs.{Vocabulary.◌≡◌, Vocabulary.List, Vocabulary.length, Vocabulary.arith, Vocabulary.refl, Vocabulary.sym, Vocabulary.ap, Vocabulary.subst, Vocabulary.◌∙◌, Vocabulary.inl, Vocabulary.inr, Vocabulary.true, Vocabulary.false, Vocabulary.same_true, Vocabulary.same_false, Vocabulary.reserve_count, Vocabulary.the_type, Vocabulary.Idle, Vocabulary.StopRow, Vocabulary.StopEnd, Vocabulary.seen, stops.AddingLeads.can_add, stops.Begins.begins, stops.Counted.stop_counts, stops.Counted.stop_counts_upper, lengths.Few.stop_fits, rounds.InboxOn.lines_of, stops.MarksOn.marks_on, starts.NewStops.stopped_in, lists.Plans.is_runnable, stops.StopEnds.IsStepped, stops.StopEnds.IsRead, stops.StopEnds.Why, stops.StopEnds.row, stops.StopEnds.some_left_then, stops.StopEnds.rounds_are, stops.StopEnds.stops_are, stops.StopEnds.has_answered, stops.StopEnds.stops_after, stops.StopEnds.done_where, stops.StopEnds.full_where, stops.Tried.stop_turns, collector.Collector.stop.Given.Over, collector.Collector.stop.Goals.then-left+then-free-reserve, collector.Collector.stop.Goals.else-left+then-not-left+then-eq, collector.Collector.stop.Goals.else-left-via-then-left+else-free-reserve, collector.Collector.stop.Goals.else-left-via-else-left, collector.Collector.stop.Goals.else-left+else-not-left, collector.Collector.stop.Goals.else-not-left-via-then-not-left+else-eq, collector.Collector.stop.Goals.else-not-left-via-else-not-left}
+use Rattle.nmgc_cycle.proofs.{Vocabulary.ℕ, Vocabulary.◌≡◌, Vocabulary.◌↔◌, Vocabulary.sym, Vocabulary.ap, Vocabulary.subst, Vocabulary.IsTrue, Vocabulary.OnOk, Vocabulary.IfOk, Vocabulary.Script, Vocabulary.SomeIsLeft, Vocabulary.IsInLimits, Vocabulary.CanStop, Vocabulary.HasAnswered, Vocabulary.StopsAfter, Vocabulary.IsDone, Vocabulary.IsHeapFullAt, Vocabulary.NothingReachableIsFreed}
 use Rattle.nmgc_cycle.specs.declared.stop.StopEnd.TheVariants as answer
 use Rattle.nmgc_cycle.proofs.stops.AfterPromotion as after
-use Rattle.nmgc_cycle.proofs.stops.StopSteps as steps
 use Rattle.nmgc_cycle.proofs.collector.Collector.stop.Goals as goal
 
-true_isnt : true ≡ false → ⊥
-true_isnt e = cc
-
-pub overflow_cast-number : goal.overflow_cast-number
-overflow_cast-number g c =
-    let few = (stop_fits c.args.script.now c.args.self.now c.requires.limits c.requires.can).number in
-    let same = ap (λ (rows : List StopRow). length rows) c.items.ensures in
-    omega (arith, few, same)
-
-pub promote-requires-clause-entries : goal.promote-requires-clause-entries
-promote-requires-clause-entries g c = (after.kept_of c.args.script.now c.args.self.now c.requires.can).entries
-
-pub promote-requires-clause-stopped : goal.promote-requires-clause-stopped
-promote-requires-clause-stopped g c =
-    let b = begins c.args.script.now c.args.self.now c.requires.limits c.requires.can in
-    (stopped_in b.began b.state b.places (seen c.args.self.now), b.stopped, b.can_list)
-
-pub add_remembered-requires-clause-lines : goal.add_remembered-requires-clause-lines
-add_remembered-requires-clause-lines g c =
-    lines_of c.args.script.now c.promote.new.self (is_runnable c.args.script.now c.requires.limits).few
-    (steps.stands_first c.a_stop_leads.ensures c.args.script.now c.args.self.now c.promote.new.self c.requires.limits c.requires.can
-    c.in_ok-promoted.ensures.promoted c.in_ok-promoted.ensures.listed).kept
-
-pub add_remembered-requires-clause-can : goal.add_remembered-requires-clause-can
-add_remembered-requires-clause-can g c =
-    can_add c.args.script.now c.promote.new.self _ (steps.stands_first c.a_stop_leads.ensures c.args.script.now c.args.self.now c.promote.new.self
-    c.requires.limits c.requires.can c.in_ok-promoted.ensures.promoted c.in_ok-promoted.ensures.listed)
-
-pub try_close-requires-clause-can : goal.try_close-requires-clause-can
-try_close-requires-clause-can g c =
-    c.a_stop_leads.ensures.close_ready c.args.script.now c.add_remembered.new.self _ c.requires.limits
-    (steps.stands_within c.a_stop_leads.ensures c.args.script.now c.args.self.now c.promote.new.self c.requires.limits c.requires.can
-    c.in_ok-promoted.ensures.promoted c.in_ok-promoted.ensures.listed c.add_remembered.new.self c.add_remembered.ensures)
-
 pub has_commands_left-left-requires : goal.has_commands_left-left-requires
-has_commands_left-left-requires g c =
-    (steps.stands_ended c.a_stop_leads.ensures c.args.script.now c.args.self.now c.promote.new.self c.requires.limits c.requires.can
-    c.in_ok-promoted.ensures.promoted c.in_ok-promoted.ensures.listed c.add_remembered.new.self c.add_remembered.ensures
-    (length c.items.result.now) (ap (λ (rows : List StopRow).
-    length rows) c.items.ensures) c.try_close.new.self c.try_close.ensures c.try_end.new.self c.in_ok-try_end.ensures).kept.positions_are
+has_commands_left-left-requires g c = (after.kept_of c.args.script.now c.args.self.now c.requires.can).positions_are
 
-pub do_due_cycle-requires-clause-stands : goal.do_due_cycle-requires-clause-stands
-do_due_cycle-requires-clause-stands g c κs within =
-    steps.at_this_stop c.a_stop_leads.ensures c.args.script.now c.args.self.now c.promote.new.self c.requires.limits c.requires.can
-    c.in_ok-promoted.ensures.promoted c.in_ok-promoted.ensures.listed c.add_remembered.new.self c.add_remembered.ensures
-    (length c.items.result.now) (ap (λ (rows : List StopRow).
-    length rows) c.items.ensures) c.try_close.new.self c.try_close.ensures c.try_end.new.self c.in_ok-try_end.ensures
+pub do_stop-requires-clause-limits : goal.do_stop-requires-clause-limits
+do_stop-requires-clause-limits g c κs out = subst IsInLimits (sym c.known_before.ensures) c.requires.limits
 
-pub do_due_cycle-requires-clause-number : goal.do_due_cycle-requires-clause-number
-do_due_cycle-requires-clause-number g c κs within =
-    let few = (stop_fits c.args.script.now c.args.self.now c.requires.limits c.requires.can).begun in
-    let same = steps.begun_is c.a_stop_leads.ensures c.args.script.now c.args.self.now c.promote.new.self c.requires.limits c.requires.can
-    c.in_ok-promoted.ensures.promoted c.in_ok-promoted.ensures.listed c.add_remembered.new.self c.add_remembered.ensures
-    (length c.items.result.now) (ap (λ (rows : List StopRow).
-    length rows) c.items.ensures) c.try_close.new.self c.try_close.ensures c.try_end.new.self c.in_ok-try_end.ensures in
-    omega (arith, few, same)
+pub do_stop-requires-clause-trigger : goal.do_stop-requires-clause-trigger
+do_stop-requires-clause-trigger g c κs out = ap (λ (s : Script). s.config.trigger) (sym c.known_before.ensures)
 
--- the steps of the stop, the values read at its end, and the reason for its answer
+pub do_stop-requires-clause-left : goal.do_stop-requires-clause-left
+do_stop-requires-clause-left g c κs out = subst (λ (s : Script). IsTrue c.has_commands_left-left.result ↔ SomeIsLeft s.threads c.args.self.now.positions.items)
+    (sym c.known_before.ensures) c.has_commands_left-left.ensures
 
-stepped : (g : Over) (c : goal.After-self-1 g) → IsStepped c.args.script.now c.args.self.now c.do_due_cycle.new.self
-stepped g c = record {
-  number = length c.items.result.now;
-  number_is = ap (λ (rows : List StopRow). length rows) c.items.ensures;
-  promoted = c.promote.new.self;
-  promotes = c.in_ok-promoted.ensures.promoted;
-  lists = c.in_ok-promoted.ensures.listed;
-  added = c.add_remembered.new.self;
-  adds = c.add_remembered.ensures;
-  closed = c.try_close.new.self;
-  closes = c.try_close.ensures;
-  ended = c.try_end.new.self;
-  ends = c.in_ok-try_end.ensures;
-  some = c.has_commands_left-left.result;
-  some_is = c.has_commands_left-left.ensures;
-  proceeds = c.in_ok-do_due_cycle.ensures;
-}
-
-read : (g : Over) (c : goal.After-self-1 g) → IsRead c.args.script.now c.do_due_cycle.new.self
-read g c = record {
-  left = c.has_commands_left-left.result;
-  left_is = some_left_then c.args.script.now c.try_end.new.self c.do_due_cycle.new.self c.args.script.now.config.trigger (length c.items.result.now)
-      c.has_commands_left-left.result c.in_ok-do_due_cycle.ensures c.has_commands_left-left.ensures;
-  phase = c.phase.result;
-  phase_is = c.phase.ensures;
-  free = c.free_count-free.result;
-  free_is = c.free_count-free.ensures;
-  filled = c.filled_count.result;
-  filled_is = c.filled_count.ensures;
-  sweep = c.sweep_count.result;
-  sweep_is = c.sweep_count.ensures;
-  reserve = c.reserve-reserve.result;
-  reserve_is = c.reserve-reserve.ensures ∙ ap reserve_count c.layout.ensures.layout;
-}
-
-why : (g : Over) (c : goal.After-self-1 g) → Why c.args.script.now c.do_due_cycle.new.self (read g c) c.if-left.end
-unfolding read
-why g c =
-    let because : StopEnd → Type 0 = λ (e : StopEnd). Why c.args.script.now c.do_due_cycle.new.self (read g c) e in
-    elim c.if-left.branch [
-      | then-left+then-free-reserve w ↦ subst because (sym w.end-is) (refl, refl, w.if-left.true, w.if-free-reserve.true)
-      | else-left+then-not-left+then-eq w ↦
-          let quiet = same_true the_type tt w.phase-then-not-left.result Idle (sym w.eq.ensures ∙ w.if-eq.true) in
-          subst because (sym w.end-is) (w.if-not-left.true, sym w.phase-then-not-left.ensures ∙ quiet)
-      | else-left+else-not-left w ↦
-          let goes_on : because answer.GoOn = elim w.else-left.branch [
-            | else-left-via-then-left+else-free-reserve v ↦ inl (v.if-left.true, v.if-free-reserve.false)
-            | else-left-via-else-left v ↦
-                let none : c.has_commands_left-left.result ≡ false = v.if-left.false in
-                let busy : because answer.GoOn = elim w.else-not-left.branch [
-                  | else-not-left-via-then-not-left+else-eq u ↦ inr (
-                    none,
-                    λ e. same_false the_type u.phase-then-not-left.result Idle (sym u.eq.ensures ∙ u.if-eq.false) (u.phase-then-not-left.ensures ∙ e),
-                  )
-                  | else-not-left-via-else-not-left u ↦
-                      let some : c.has_commands_left-left.result ≡ true = u.if-not-left.false in
-                      absurd (true_isnt (sym some ∙ none))
-                ] in
-                busy
-          ] in
-          subst because (sym w.end-is) goes_on
-    ]
+pub do_stop-requires-clause-can : goal.do_stop-requires-clause-can
+do_stop-requires-clause-can g c κs out = subst (λ (s : Script). CanStop s c.args.self.now) (sym c.known_before.ensures) c.requires.can
 
 pub returns-clause-answered : goal.returns-clause-answered
-unfolding stepped read
-returns-clause-answered g c =
-    has_answered c.a_stop_leads.ensures c.args.script.now c.args.self.now c.do_due_cycle.new.self c.requires.limits (stepped g c) (read g c)
-    c.in_ok-promoted.promoted c.in_ok-promoted.ensures.many c.push.new.self c.end_of_answer-self.result c.in_ok-push.ensures.ok c.requires.can c.if-left.end
-    (why g c) c.end_of_answer-self.ensures
+returns-clause-answered g c = subst (λ (s : Script). IfOk c.do_stop.result (λ end. HasAnswered s c.do_stop.new.self end)) c.known_before.ensures c.do_stop.ensures.answered
 
 pub returns-clause-after : goal.returns-clause-after
-unfolding stepped read
-returns-clause-after g c =
-    stops_after c.a_stop_leads.ensures c.args.script.now c.args.self.now c.do_due_cycle.new.self c.requires.limits (stepped g c) (read g c)
-    c.in_ok-promoted.promoted c.in_ok-promoted.ensures.many c.push.new.self c.end_of_answer-self.result c.in_ok-push.ensures.ok c.if-left.end (why g c)
-    c.end_of_answer-self.ensures
+returns-clause-after g c = subst (λ (s : Script). OnOk c.do_stop.result (StopsAfter s c.args.self.now c.do_stop.new.self)) c.known_before.ensures c.do_stop.ensures.after
 
 pub returns-clause-done : goal.returns-clause-done
-returns-clause-done g c =
-    let h = done_where c.args.script.now c.do_due_cycle.new.self (read g c) c.if-left.end (why g c) in
-    (λ e. let d = h.0 e in (d.0, d.1), λ d. h.1 (d.0, d.1))
+returns-clause-done g c = subst (λ (s : Script). IfOk c.do_stop.result (λ end. (end ≡ answer.Done) ↔ IsDone s c.do_stop.new.self)) c.known_before.ensures c.do_stop.ensures.done
 
 pub returns-clause-full : goal.returns-clause-full
-returns-clause-full g c = λ free reserve.
-    let h = full_where c.args.script.now c.do_due_cycle.new.self (read g c) c.if-left.end (why g c) free reserve in (
-      λ e. let f = h.0 e in record { left = f.left; free_is = f.free_is; reserve_is = f.reserve_is; less = f.less },
-      λ f. h.1 (record { left = f.left; free_is = f.free_is; reserve_is = f.reserve_is; less = f.less }),
-    )
+returns-clause-full g c = subst (λ (s : Script). IfOk c.do_stop.result (λ end. (free reserve : ℕ) → (end ≡ answer.HeapFull free reserve) ↔ IsHeapFullAt s c.do_stop.new.self free reserve)) c.known_before.ensures c.do_stop.ensures.full
 
-pub returns-clause-marks_on : goal.returns-clause-marks_on
-unfolding stepped
-returns-clause-marks_on g c = marks_on c.args.script.now c.args.self.now c.do_due_cycle.new.self (stepped g c)
-
-pub returns-clause-rounds : goal.returns-clause-rounds
-unfolding stepped read
-returns-clause-rounds g c =
-    rounds_are c.a_stop_leads.ensures c.args.script.now c.args.self.now c.do_due_cycle.new.self c.requires.limits (stepped g c) (read g c)
-    c.in_ok-promoted.promoted c.in_ok-promoted.ensures.many c.push.new.self c.end_of_answer-self.result c.in_ok-push.ensures.ok c.requires.can
-
-pub returns-clause-stops : goal.returns-clause-stops
-unfolding stepped read
-returns-clause-stops g c = (
-  row c.a_stop_leads.ensures c.args.script.now c.args.self.now c.do_due_cycle.new.self c.requires.limits (stepped g c) (read g c)
-      c.in_ok-promoted.promoted c.in_ok-promoted.ensures.many,
-  stops_are c.a_stop_leads.ensures c.args.script.now c.args.self.now c.do_due_cycle.new.self c.requires.limits (stepped g c) (read g c)
-      c.in_ok-promoted.promoted c.in_ok-promoted.ensures.many c.push.new.self c.end_of_answer-self.result c.in_ok-push.ensures.ok c.requires.can,
-)
-
-pub returns-clause-mutator_turns : goal.returns-clause-mutator_turns
-unfolding stepped
-returns-clause-mutator_turns g c = stop_turns c.args.script.now c.args.self.now c.do_due_cycle.new.self (stepped g c)
-
-pub returns-clause-turns : goal.returns-clause-turns
-unfolding stepped
-returns-clause-turns g c = stop_counts c.args.script.now c.args.self.now c.do_due_cycle.new.self (stepped g c)
-
-pub returns-clause-upper_turns : goal.returns-clause-upper_turns
-unfolding stepped
-returns-clause-upper_turns g c = stop_counts_upper c.args.script.now c.args.self.now c.do_due_cycle.new.self (stepped g c)
+pub returns-clause-freed : goal.returns-clause-freed
+returns-clause-freed g c = subst (λ (s : Script). OnOk c.do_stop.result (NothingReachableIsFreed s c.do_stop.new.self)) c.known_before.ensures c.do_stop.ensures.freed

@@ -11,7 +11,7 @@ returns-in-Marking-clause-helped g c =
     let n : Marking = record c.in-Marking.marking { marker = c.work-marking.new.self; last = c.work-marking.result } in
     let did = c.work-marking.ensures in
     subst (λ (q : Progress).
-    HasHelped c.args.inputs.now.round.now c.args.inputs.now.script.now.config.quota c.args.seat.now c.work-marking.new.seat c.args.segments.now c.work-marking.new.segments
+    HasHelped c.args.inputs.now.round.now c.args.inputs.now.config.now.quota c.args.seat.now c.work-marking.new.seat c.args.segments.now c.work-marking.new.segments
     c.args.names.now q (progress.Marking n)) (sym c.in-Marking.is) (
       n,
       refl,

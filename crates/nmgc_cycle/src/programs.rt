@@ -1,0 +1,105 @@
+//! Runs of programs that decide: a program is asked for each command, and may look at the last reply first.
+//!
+//! The commands of a program aren't known before the run. At a stop, the script of the run so far has the commands that each
+//! program gave, and then its waiting command (`script_of` in `specs/Programs.antt`). It exists in proofs alone (`Witness`).
+//! Only a program with a waiting command can give more. So the next stop's script is longer, and the collector at this stop
+//! is at a stop of the longer script's run too. At the end of the run the report is a lawful report of the last script.
+//!
+//! Every run ends, since each program says how many commands it gives at most (`most`). A command that waits for room is asked
+//! for again in the next round, and the program gives the same command.
+//!
+//! Easy to get wrong: a program at its end gives no command in a later round either. Its state doesn't change any more.
+ghost use Rattle.std.specs.Prelude.{IfOk};
+ghost use Rattle.nmgc_cycle.specs.Programs.{HasNoCommands, IsRunOfPrograms, MayRun};
+
+use crate::{Collector, StopEnd};
+use nmgc_journal::{End, Report};
+use nmgc_lists::{List, NoMemory};
+use nmgc_mutator::Program;
+use nmgc_round::witness::WitnessFor;
+use nmgc_round::{Gate, Witness};
+use nmgc_script::{Config, Script};
+use std::alloc::Global;
+use std::marker::PhantomData;
+use std::thread::Threads;
+
+// The programs as a run began, for proofs alone. The witness names a slice, which has the same size for all programs. It
+// borrows nothing, since a witness has no bytes.
+pub(crate) struct AtBeginning<P> {
+    marker: PhantomData<P>,
+}
+
+impl<'a, 'b, P> WitnessFor<&'a [P], &'b [P]> for AtBeginning<P> {
+    ghost use Rattle.std.specs.Prelude.{◌≡◌};
+
+    ghost wanted = { λ about programs. programs.now ≡ about.now };
+}
+
+// The script of the run so far.
+pub(crate) struct SoFar<P> {
+    marker: PhantomData<P>,
+}
+
+impl<'a, 'b, P: Program> WitnessFor<
+    (&'a Witness<&'b [P]>, &'a Config, &'a Collector, &'a [P]),
+    Script,
+> for SoFar<P> {
+    ghost use Rattle.nmgc_cycle.specs.Programs.{IsScriptSoFar};
+
+    ghost wanted = { λ about script. IsScriptSoFar P.next P.steps P.words P.most P.valid about.1.now about.0.now.value.now about.2.now about.3.now script };
+}
+
+// Returns a script with this configuration and `count` programs without commands.
+fn without_commands(alloc: Global, config: &Config, count: usize) -> Result<Script, NoMemory>
+    ensures { IfOk result (λ script. HasNoCommands config.now count script) }
+{
+    let mut threads = List::new(alloc);
+    for _number in 0..count {
+        threads.push(List::new(alloc))?;
+    }
+    Ok(Script {
+        version: 3,
+        config: *config,
+        threads,
+    })
+}
+
+impl Collector {
+    /// Does a whole run of programs, one for each mutator, and returns its report. Each program runs in its mutator's thread,
+    /// and gets each reply before it is asked for the next command. A run is a stop, and then rounds, each with a stop after
+    /// it, until a stop answers an end. `gate` is passed as in `run`.
+    ///
+    /// The report is a lawful report of a script with this configuration. Program k of the script has the commands that program
+    /// k gave, and then its waiting command if it isn't at its end. The replies of mutator k in the report are those
+    /// that program k took, in order. The report ends with `Done` if every program is at its end. It ends with `HeapFull`
+    /// exactly if a full cycle at the last stop left fewer segments free than the reserve, and some command waits.
+    ///
+    /// The programs stay the caller's, also after `NoMemory`: each is in the state in which it took its last reply. Requires a
+    /// configuration within the limits of version 3, one to `MAKERS` valid programs, and few enough commands of each.
+    pub fn run_programs<'b, R: Threads + Sync, P: Program, G: Gate>(
+        alloc: Global,
+        rt: &R,
+        config: &Config,
+        programs: &'b mut [P],
+        gate: &G,
+    ) -> Result<Report, NoMemory>
+        requires { MayRun P.words P.most P.valid config.now programs.old }
+        ensures { IfOk result (λ report. IsRunOfPrograms P.next P.steps P.words P.most P.valid config.now programs.old programs.new report) }
+    {
+        let began: Witness<&'b [P]> = Witness::of::<&[P], AtBeginning<P>>(&&*programs);
+        let empty = without_commands(alloc, config, programs.len())?;
+        let mut collector = Collector::new(alloc, &empty)?;
+        'stops: loop {
+            let script = Witness::of::<(&Witness<&'b [P]>, &Config, &Collector, &[P]), SoFar<P>>(&(
+                &began, config, &collector, &*programs,
+            ));
+            match collector.stop_programs(rt, config, &script, programs)? {
+                StopEnd::GoOn => collector.round_programs(rt, config, &script, programs, gate)?,
+                StopEnd::Done => return Ok(collector.into_report(End::Done)),
+                StopEnd::HeapFull { free, reserve } => {
+                    return Ok(collector.into_report(End::HeapFull { free, reserve }));
+                }
+            }
+        }
+    }
+}
