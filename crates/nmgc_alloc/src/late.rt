@@ -1,4 +1,4 @@
-//! The segments of a heap, as other crates use them: a cycle begins here in constant time.
+//! The segments of a heap, for which a cycle begins in constant time. `carrying` has the type that other crates see.
 //!
 //! When a cycle begins, every segment that isn't free changes: its snapshot is taken, and if it is filled, it is then to be
 //! swept. All mutators are stopped then, and a pass over all segments takes time that grows with the heap. So `prepare` only
@@ -13,7 +13,7 @@
 ghost use Rattle.std.specs.Prelude.{ℕ, ◌≡◌, ◌≢◌, ◌↔◌, ◌<◌, map, min, count_by, slice_set, IsTrue, IfOk, IfSome, IfNone, if◌then◌else◌};
 ghost use Rattle.nmgc_object.specs.Layouts.{IsLayout};
 ghost use Rattle.nmgc_segment.specs.{Marks.IsEpoch, Invariant.InSnapshot, Invariant.IsMarked, Segment.block_count};
-ghost use Rattle.nmgc_alloc.specs.{AllocState.prepared, AllocState.seen_late, AllocState.is, AllocState.nth, CycleSteps.carried_over, CycleSteps.retired, declared.search.Category.TheVariants.Sweeping, Search.sought_count, Halves.IsInHalf, Halves.SweepsMany};
+ghost use Rattle.nmgc_alloc.specs.{AllocState.prepared, AllocState.seen_late, AllocState.is, AllocState.nth, AllocState.carried_over, CycleSteps.retired, declared.search.Category.TheVariants.Sweeping, Search.sought_count, Halves.IsInHalf, Halves.SweepsMany};
 
 use crate::cycle_steps;
 use crate::segments::Segments as Done;
@@ -26,7 +26,7 @@ use std::thread::Threads;
 
 /// The segments of a heap, in order of their numbers.
 #[derive(Drop)]
-pub struct Segments {
+pub(crate) struct Segments {
     done: Done,
     // Whether the pass of the last `prepare` is still to be done.
     late: bool,
@@ -52,11 +52,11 @@ fn either(late: bool, first: u32, second: u32) -> u32
 }
 
 impl Segments {
-    ghost use Rattle.nmgc_alloc.specs.Segments.{all_free, IsMutator, IsClass, HasRoom, HasNoneIn, Allocates, SweepsNext, IsBlockAt, IsSegments, MarksBlock, MarksIfBlock, IsToMark, marked_if};
+    ghost use Rattle.nmgc_alloc.specs.Segments.{all_free, IsMutator, IsClass, HasRoom, HasNoneIn, Allocates, SweepsNext, IsBlockAt, IsSegments, IsToMark, marked_if};
     ghost use Rattle.nmgc_alloc.specs.AllocState.{HasNumber, block_place};
 
     /// Makes all segments of a layout, each of them free. No other call takes memory. Fails with `NoMemory` if there is none.
-    pub fn new(alloc: Global, layout: Layout) -> Result<Self, NoMemory>
+    pub(crate) fn new(alloc: Global, layout: Layout) -> Result<Self, NoMemory>
         requires { IsLayout layout }
         ensures value { IfOk result (λ segments. segments ≡ all_free layout) }
         ensures sound { IfOk result IsSegments }
@@ -77,7 +77,7 @@ impl Segments {
 
     /// Does the pass of the last `prepare`, if it is still late: contracts see no change. Takes time proportional to the
     /// number of segments, once a cycle.
-    pub fn catch_up(&mut self)
+    pub(crate) fn catch_up(&mut self)
         ensures { self.new ≡ self.old }
     {
         Segments::prepare_late(&mut self.done, self.late);
@@ -85,7 +85,7 @@ impl Segments {
     }
 
     /// Returns the layout.
-    pub fn layout(&self) -> Layout
+    pub(crate) fn layout(&self) -> Layout
         ensures layout { result ≡ self.now.layout }
         ensures sound { IsSegments self.now }
     {
@@ -93,7 +93,7 @@ impl Segments {
     }
 
     /// Returns the number of segments filled by placing since the last cycle began, at most the number of filled segments.
-    pub fn fresh(&self) -> u32
+    pub(crate) fn fresh(&self) -> u32
         ensures { result ≡ self.now.fresh }
     {
         either(self.late, 0, self.done.fresh())
@@ -101,7 +101,7 @@ impl Segments {
 
     /// Returns a segment by its number, for its class, its blocks and their marks. For its state and its snapshot there are
     /// `state` and `in_snapshot`.
-    pub fn segment(&self, number: u32) -> &Segment
+    pub(crate) fn segment(&self, number: u32) -> &Segment
         requires { HasNumber self.now number }
         ensures { result.now ≡ record (nth self.now.segments number) { state = result.now.state; snap = result.now.snap } }
     {
@@ -109,7 +109,7 @@ impl Segments {
     }
 
     /// Returns the state of a segment.
-    pub fn state(&self, number: u32) -> State
+    pub(crate) fn state(&self, number: u32) -> State
         requires { HasNumber self.now number }
         ensures { result ≡ (nth self.now.segments number).state }
     {
@@ -117,7 +117,7 @@ impl Segments {
     }
 
     /// Whether a block is in the snapshot.
-    pub fn in_snapshot(&self, number: u32, block: u32) -> bool
+    pub(crate) fn in_snapshot(&self, number: u32, block: u32) -> bool
         requires exists { HasNumber self.now number }
         requires block { block < block_count (nth self.now.segments number) }
         ensures { IsTrue result ↔ InSnapshot (nth self.now.segments number) block }
@@ -127,7 +127,7 @@ impl Segments {
     }
 
     /// Whether a block is marked with the epoch.
-    pub fn is_marked(&self, number: u32, block: u32, epoch: u8) -> bool
+    pub(crate) fn is_marked(&self, number: u32, block: u32, epoch: u8) -> bool
         requires epoch { IsEpoch epoch }
         requires exists { HasNumber self.now number }
         requires block { block < block_count (nth self.now.segments number) }
@@ -137,21 +137,21 @@ impl Segments {
     }
 
     /// Returns the number of free segments. Constant time.
-    pub fn free_count(&self) -> u32
+    pub(crate) fn free_count(&self) -> u32
         ensures { result ≡ count_by (λ segment. is segment.state State.Free) self.now.segments }
     {
         self.done.free_count()
     }
 
     /// Returns the number of filled segments. Constant time.
-    pub fn filled_count(&self) -> u32
+    pub(crate) fn filled_count(&self) -> u32
         ensures { result ≡ count_by (λ segment. is segment.state State.Filled) self.now.segments }
     {
         either(self.late, 0, self.done.filled_count())
     }
 
     /// Returns the number of segments to be swept. Constant time.
-    pub fn sweep_count(&self) -> u32
+    pub(crate) fn sweep_count(&self) -> u32
         ensures { result ≡ count_by (λ segment. is segment.state State.Sweeping) self.now.segments }
     {
         either(self.late, self.done.filled_count(), self.done.sweep_count())
@@ -160,7 +160,7 @@ impl Segments {
     /// Returns true exactly if there is room for a mutator's object of a class. The room is in the mutator's current segment
     /// of the class, which always has a free block, in an active segment of the class, or in a free segment. It is for tests:
     /// promotion knows from the reserve that there is room.
-    pub fn has_room(&self, mutator: u8, class: u8) -> bool
+    pub(crate) fn has_room(&self, mutator: u8, class: u8) -> bool
         requires mutator { IsMutator self.now.layout mutator }
         requires class { IsClass self.now.layout class }
         ensures { IsTrue result ↔ HasRoom self.now mutator class }
@@ -170,7 +170,7 @@ impl Segments {
 
     /// Places an object of the class for the mutator by Note [The placing rule], and returns its address. Constant time
     /// except for the search for the next unused block, and for the next segment if the current one was filled.
-    pub fn allocate(&mut self, mutator: u8, class: u8) -> Address
+    pub(crate) fn allocate(&mut self, mutator: u8, class: u8) -> Address
         requires mutator { IsMutator self.old.layout mutator }
         requires class { IsClass self.old.layout class }
         requires room { HasRoom self.old mutator class }
@@ -184,43 +184,15 @@ impl Segments {
 
     /// Returns the segment's number and the block's number for the block that begins at an address, or `None` exactly if no
     /// block begins there. A free segment has no blocks. Constant time: a shift finds the segment, without a division.
-    pub fn block_at(&self, at: Address) -> Option<(u32, u32)>
+    pub(crate) fn block_at(&self, at: Address) -> Option<(u32, u32)>
         ensures some { IfSome result (λ p. IsBlockAt self.now p.0 p.1 at.0) }
         ensures none { IfNone result ((number block : ℕ) → IsBlockAt self.now number block at.0 → ⊥) }
     {
         self.done.block_at(at)
     }
 
-    /// Marks the block that begins at the address if it is an unmarked block of the snapshot, and returns whether it did.
-    /// Otherwise nothing changes. Requires that a block begins there. For tests; the marker calls `try_mark_at`.
-    pub fn mark_at(&mut self, at: Address, epoch: u8) -> bool
-        requires epoch { IsEpoch epoch }
-        requires begins { (number : ℕ) × (block : ℕ) × IsBlockAt self.old number block at.0 }
-        ensures marks { MarksBlock self.old self.new at.0 epoch result }
-        ensures sound { IsSegments self.new }
-    {
-        match self.block_at(at) {
-            Some((number, block)) => self.try_mark(number, block, epoch),
-            None => unreachable!(),
-        }
-    }
-
-    /// Marks the block that begins at the address, if one begins there and is an unmarked block of the snapshot. Returns
-    /// whether it marked a block. Otherwise nothing changes. Constant time.
-    pub fn try_mark_at(&mut self, at: Address, epoch: u8) -> bool
-        requires { IsEpoch epoch }
-        ensures marks { MarksIfBlock self.old self.new at.0 epoch result }
-        ensures sound { IsSegments self.new }
-    {
-        let _ = self.layout();
-        match self.block_at(at) {
-            Some((number, block)) => self.try_mark(number, block, epoch),
-            None => false,
-        }
-    }
-
     /// Marks a block if it is an unmarked block of the snapshot, and returns whether it marked the block. Constant time.
-    pub fn try_mark(&mut self, number: u32, block: u32, epoch: u8) -> bool
+    pub(crate) fn try_mark(&mut self, number: u32, block: u32, epoch: u8) -> bool
         requires epoch { IsEpoch epoch }
         requires exists { HasNumber self.old number }
         requires block { block < block_count (nth self.old.segments number) }
@@ -236,7 +208,7 @@ impl Segments {
     }
 
     /// Returns the address of the first word of a segment's block.
-    pub fn place_of(&self, number: u32, block: u32) -> Address
+    pub(crate) fn place_of(&self, number: u32, block: u32) -> Address
         requires exists { HasNumber self.now number }
         requires block { block < block_count (nth self.now.segments number) }
         ensures place { result.0 ≡ block_place self.now.layout number (nth self.now.segments number).class block }
@@ -247,7 +219,7 @@ impl Segments {
 
     /// Begins a cycle: takes the snapshot of every segment that isn't free, and sets `fresh` to 0. Filled segments are then
     /// to be swept. Requires that no segment is to be swept before. Constant time: `catch_up` does the pass over segments.
-    pub fn prepare(&mut self)
+    pub(crate) fn prepare(&mut self)
         requires { HasNoneIn State.Sweeping self.old }
         ensures value { self.new ≡ record self.old { segments = map prepared self.old.segments; fresh = 0 } }
         ensures sound { IsSegments self.new }
@@ -258,7 +230,7 @@ impl Segments {
     }
 
     /// Sets each mark byte that isn't 0 to the epoch, in all segments that are neither free nor to be swept.
-    pub fn carry(&mut self, epoch: u8)
+    pub(crate) fn carry(&mut self, epoch: u8)
         requires { IsEpoch epoch }
         ensures value { self.new ≡ record self.old { segments = map (carried_over epoch) self.old.segments } }
         ensures sound { IsSegments self.new }
@@ -270,7 +242,7 @@ impl Segments {
 
     /// Sweeps the least-numbered segment that is to be swept, and returns its number. Returns `None` exactly if there is
     /// none. Constant time except for the search for that segment and the sweep.
-    pub fn sweep_next(&mut self, epoch: u8) -> Option<u32>
+    pub(crate) fn sweep_next(&mut self, epoch: u8) -> Option<u32>
         requires { IsEpoch epoch }
         ensures none { IfNone result (HasNoneIn State.Sweeping self.old × (self.new ≡ self.old)) }
         ensures some { IfSome result (λ number. SweepsNext self.old self.new epoch number) }
@@ -286,7 +258,7 @@ impl Segments {
     /// threads. If the number of sweeps is odd, the lower half has one more. For a single segment, or if no thread can be
     /// started, the calling thread does the work. Before each sweep, a half calls `before` with its number (0 or 1) and the
     /// number of its earlier sweeps. No clause promises these calls: the requirement `before` only bounds the arguments.
-    pub fn sweep_many<R: Threads + Sync, F: Fn(u8, u32) + Sync>(
+    pub(crate) fn sweep_many<R: Threads + Sync, F: Fn(u8, u32) + Sync>(
         &mut self,
         rt: &R,
         epoch: u8,
@@ -305,7 +277,7 @@ impl Segments {
     }
 
     /// Files every current and every active segment as filled, for a full cycle that is to begin.
-    pub fn retire_all(&mut self)
+    pub(crate) fn retire_all(&mut self)
         ensures value { self.new ≡ record self.old { segments = map retired self.old.segments } }
         ensures sound { IsSegments self.new }
     {

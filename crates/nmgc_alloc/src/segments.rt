@@ -12,7 +12,7 @@
 ghost use Rattle.std.specs.Prelude.{ℕ, ◌≡◌, ◌≢◌, ◌↔◌, ◌+◌, ◌<◌, ◌≤◌, ◌/◌, ◌%◌, map, min, replicate, count_by, slice_set, IsTrue, IfOk, IfSome, IfNone};
 ghost use Rattle.nmgc_object.specs.{Layouts.IsLayout, Layouts.IsSegmentSize, Words.segment_place};
 ghost use Rattle.nmgc_segment.specs.{Marks.IsEpoch, Segment.free_segment, Segment.block_count};
-ghost use Rattle.nmgc_alloc.specs.{AllocState.prepared, AllocState.is, AllocState.nth, CycleSteps.carried_over, CycleSteps.retired, CycleSteps.with_snapshot, Search.sought_count, Search.IsKind, Search.tally_from, Halves.IsInHalf, Halves.SweepsMany};
+ghost use Rattle.nmgc_alloc.specs.{AllocState.prepared, AllocState.is, AllocState.nth, AllocState.carried_over, CycleSteps.retired, CycleSteps.with_snapshot, Search.sought_count, Search.IsKind, Search.tally_from, Halves.IsInHalf, Halves.SweepsMany};
 
 use crate::filing::Filed;
 use crate::search::{self, Category};

@@ -1,5 +1,5 @@
 -- The names of std, of the crates below and of this crate's definitions that the proofs use.
-pub use Rattle.nmgc_alloc.specs.{AllocState.AllocState, AllocState.AreNames, AllocState.Cells, AllocState.Exists, AllocState.HoldsKept, AllocState.IsFull, AllocState.IsIn, AllocState.IsOf, AllocState.IsOne, AllocState.IsTarget, AllocState.LiesIn, AllocState.NoneIs, AllocState.PlacesName, AllocState.Sweeps, AllocState.SweepsEach, AllocState.all_empty, AllocState.cells, AllocState.count_in, AllocState.cycle_begun, AllocState.name_in, AllocState.no_cells, AllocState.with_cells, AllocState.prepared, AllocState.HasNumber, AllocState.Segments, AllocState.block_place, AllocState.is, AllocState.nth, AllocState.Shows, AllocState.StandsFor, Invariant.HasBlock, Blocks.IsMarkedAt, Blocks.IsSnapshotAt, Blocks.IsUsedAt, CycleSteps.carried_in, CycleSteps.carried_over, Segments.IsBlockAt, Segments.IsSegments, Segments.IsWaiting, Settled.AreSettled, Settled.IsSettledByte}
+pub use Rattle.nmgc_alloc.specs.{AllocState.AllocState, AllocState.AreNames, AllocState.Cells, AllocState.Exists, AllocState.HoldsKept, AllocState.IsFull, AllocState.IsIn, AllocState.IsOf, AllocState.IsOne, AllocState.IsTarget, AllocState.LiesIn, AllocState.NoneIs, AllocState.PlacesName, AllocState.Sweeps, AllocState.SweepsEach, AllocState.all_empty, AllocState.cells, AllocState.count_in, AllocState.cycle_begun, AllocState.name_in, AllocState.no_cells, AllocState.with_cells, AllocState.prepared, AllocState.HasNumber, AllocState.Segments, AllocState.block_place, AllocState.is, AllocState.nth, AllocState.Shows, AllocState.StandsFor, Invariant.HasBlock, Blocks.IsMarkedAt, Blocks.IsSnapshotAt, Blocks.IsUsedAt, AllocState.carried_in, AllocState.carried_over, Segments.IsBlockAt, Segments.IsSegments, Segments.IsWaiting, Settled.AreSettled, Settled.IsSettledByte}
 pub use Rattle.nmgc_alloc.specs.laws.{Apart.lies_in, Apart.same_block, Blocks.Carries, Blocks.Within, Blocks.carried_at, Blocks.marked_within, Blocks.prepared_snapshot, Blocks.snapshot_within, Cells.AreFreeEmpty, Cells.begun_cells, Cells.begun_names, Cells.free_empty, Cells.none_some, Cells.placed_free, Cells.placed_size, Cells.placed_stays, Cells.placed_where, Cells.swept_back, Cells.swept_other, Numbers.nth-map, OneState.first_cells as all_free, Placing.free_or_not, Placing.inside, Sound.stands_sound, Sound.used_exists, Turning.prepared_stands}
 pub use Rattle.nmgc_stop_spec.specs.{Cycle.Cycle, Cycle.IsBlockPlace, Cycle.IsDeadIn, Cycle.IsKeptIn, Cycle.IsPlaceAtStop, Cycle.IsPromoted, Cycle.IsYoung, Cycle.PlacesEach, Cycle.PlacesObject, Kept.IsKeptObject, Kept.interval_of, Nurseries.AreUsed, Nurseries.LieInOrder, Nurseries.nursery_at, Occupied.AreBlocks, Remembers.Remembers, Stopped.IsRoundOf, Stopped.IsSettled, Stopped.IsStopped, Stopped.Stopped, Stopped.young_base, laws.Blocks.is_block}
 pub use Rattle.nmgc_collector_laws.specs.{Blocks.AreOfBlocks, Blocks.TiesAgree, Calls.AddIsMarking, Calls.RoundIsMarking, Calls.SnapshotIsMarking, Calls.all_entries, Closes.ClosingComes, Closes.ClosingIsPaced, Closes.ClosingIsSoon, Collector.AreAtRest, Collector.EachMutator, Collector.IsMarking, CycleCloses.CycleCloses, CycleCloses.CycleMayResolve, CycleCloses.HasClosed, Drops.DropKeepsRound, Drops.DropsFreed, Drops.FreeGrows, Drops.FreesUntracked, Drops.RoundFreesUntracked, Drops.StopFreesUntracked, Drops.SweptHoldsAfterRound, Drops.SweptHoldsAtStop, Heaps.AreShown, Heaps.HeapRests, Heaps.IsRoundFrom, Heaps.MarkedHolds, Heaps.RoundHolds, Heaps.seen_mutator, Joins.FewerListed, Joins.HaveJoinedList, Joins.HaveMoved, Joins.IsAliveAt, Joins.JoinersAreNew, Joins.JoiningLists, Joins.weak_header, Keeps.HasLeft, Keeps.NoneRemember, Keeps.PaceAfterRound, Keeps.PaceAtStop, Keeps.PaceBegins, Keeps.PromotionKeepsMarking, Keeps.ShowEntries, Marker.AreAt, Marker.AreMarked, Marker.AreRemembered, Marker.IsCoreOf, Marker.IsRightSnapshot, Marker.IsRightSnapshot as IsRightByBlocks, Marker.IsTied, Marker.IsTied as IsTiedByBlocks, Marker.IsUnread, Owed.GoesOn, Owed.HaveOwed, Owed.MachineGoesOn, Owed.SlicesAreGathered, Owed.SlicesAreOwed, Owed.gathered, Prepares.StopBegins, Prepares.StopIsPrepared, Prepares.all_prepared, Resolves.ClosedCycleSweeps, Resolves.ClosedHolds, Resolves.FinalisersInHand, Resolves.FinishMayResolve, Resolves.IsClosingOf, Resolves.IsStopOf, Resolves.ResolveCloses, Resolves.closed_state, Resolves.finished_on, Resolves.stop_opening, Rest.IsAtRest, Rest.IsResting, Rest.hand_of, Rest.opening_at, RestMarking.IsAtRestMarking, RestMarking.IsMachineAtRest, RestMarking.RestOpens, RestMarking.opening_beside, RestMarking.with_rows, Samples.ObjectIsLawful, Samples.object_mutator, Samples.object_name, Samples.object_program, Samples.object_replies, Samples.object_segments, Samples.object_words, Samples.quiet_stop, Samples.small_heap, Samples.small_plan, Seen.CollectorSeen, Seen.MutatorSeen, Seen.end_of, Seen.ends_of, Stays.HasPromoted, Stays.places_after, Sweeps.HasPlaced, Sweeps.MarkedWait, Sweeps.PlacedWait, Sweeps.SettledStays, Sweeps.SweepingStays, Sweeps.all_carried, Tie.CoreHasSnapshot, Tie.RoundBeginsTied, Turn.BirthsAreInOrder, Turn.RootsAreLeft, Turn.RoundIsHistory, Turn.RoundIsRemembered, Turn.RoundIsStopped, Turn.RoundListsFinalised, Turn.stop_after, Worked.Done, Worked.HaveWorked, Worked.finalised_of, Worked.nurseries_of, Worked.queues_of, Worked.recorded_of, Worked.weaks_of}
@@ -15,7 +15,7 @@ pub use Rattle.nmgc_round.specs.{Events.Happening, Events.IsLegal, Events.did, E
 pub use Rattle.nmgc_round.specs.laws.{Common.marks_if, Common.plain_is, Common.plain_is as plain_answer, Common.same_count, Common.world_scanned, Gathering.same_opening, Gathering.still_collects, Slots.slots_other, Slots.slots_same}
 pub use Rattle.nmgc_run_laws.specs.{Course.WaitsWhole, Sound.IsInCycle, Sound.IsSoundState, laws.Closings.one_more, laws.Closings.within_rounds, laws.Course.SameWait, laws.Course.all_placing_waits, laws.Course.still_noted, laws.CycleCounts.free, laws.Leaving.rows_keep_headers, laws.Places.block_used, laws.Places.blocks_at_stop, laws.Runs.rounds_are_sound, laws.Runs.states_are_sound, laws.Sweeps.sweeps_keep, laws.Tracks.tracked_before, laws.Tracks.tracked_itself}
 pub use Rattle.nmgc_run_spec.specs.{Terms.IsStrongObject, Run.owed as owed_along, Run.answered, Run.IsRun, Run.Run, Run.last_state, Run.slices, Run.Plan, Run.Progress, Run.State as RunState, Run.cycle_started, Run.layout_of, Run.marking, Run.next_cycle, Run.sweeping, Run.IsCycleDue, Run.IsFullDue, Lawful.FitBlocks, Terms.HasAllRegisters, Heap.HeapStandsFor, AfterRound.HoldsAfterRound, Heap.HoldsAtStop, AfterRound.IsBornPlace, Terms.registers_of, Terms.serials_of, Heap.snapshots, Terms.SweepsBeside, Terms.own_rows}
-pub use Rattle.nmgc_segment.specs.{Marks.IsEpoch, Marks.carried, Marks.epoch_of, Invariant.InSnapshot, Segment.InUse, Invariant.IsMarked, Invariant.IsSegment, Segment.Segment, Segment.free_segment, Segment.mark_of, declared.state.State.State as Stands, declared.state.State.TheVariants.Free, laws.Common.epoch_sound as epoch_is_epoch, laws.Segments.mark-map}
+pub use Rattle.nmgc_segment.specs.{Marks.IsEpoch, Segment.carried, Marks.epoch_of, Invariant.InSnapshot, Segment.InUse, Invariant.IsMarked, Invariant.IsSegment, Segment.Segment, Segment.free_segment, Segment.mark_of, declared.state.State.State as Stands, declared.state.State.TheVariants.Free, laws.Common.epoch_sound as epoch_is_epoch, laws.Segments.mark-map}
 pub use Rattle.nmgc_snapshot_laws.specs.{Closing.IsClosing, Closing.IsRescued, Closing.IsRevived, Facts.Facts, Facts.IsAhead, Facts.IsSafe, Facts.marked, Facts.owed, Facts.queued, Machine.AreEmpty, Machine.Passes, Machine.advanced, Machine.after_command, Machine.after_push, Machine.after_scan, Machine.after_take, Machine.is_pushed_in, Machine.pushed_of, Run.IsExactClosing, Run.Runs, Scan.field_at, Scan.read_at, State.State, State.State as Core, State.entry_of, State.is_listed, State.is_new, State.mark_name, State.mark_read, State.mark_values, State.names_of, State.opening, State.root_values, State.unmarked, State.unmarked as first_state, State.with_mark, declared.event.Entry.Entry, declared.event.Event.Event, laws.Commands.next_absent, laws.Common.runs_join as runs_then, laws.Ending.none_of as each_empty, laws.Listed.all_from_contains, laws.Listed.each_names, laws.Listed.is_same_name-refl, laws.Listed.listed_from, laws.Listed.names_other, laws.Listed.names_same, laws.Listed.tested_same, laws.Lives.live_there, laws.Lives.stands, laws.MarkedOnce.IsOnce, laws.MarkedOnce.once_opening, laws.MarkedOnce.once_runs, laws.MarkedOnce.stays_closed, laws.Marking.mark_cases, laws.Openings.no_names as none_at_first, laws.Openings.no_names as none_owed, laws.Runs.closing_is_exact, laws.Runs.event_keeps_facts, laws.Runs.facts_kept, laws.Runs.opening_has_facts, laws.Runs.opening_world, laws.Runs.snapshot_theorem, laws.ScanReads.read_cases, laws.Scans.has_free as thunk_free}
 pub use Rattle.nmgc_sweep.specs.{Seen.CycleSeen, Seen.SweeperSeen, Sweeping.HasListedNothing, Sweeping.HasNoted, Sweeping.IsFreedSoFar, Sweeping.IsListedSoFar, laws.NameTable.lies_exists as lies_within}
 pub use Rattle.nmgc_weak.specs.{Closes.QueuesClose, Queues.weak_count, Resolve.CanResolve, Weaks.places_of, declared.weaks.Death.Death, declared.weaks.OldWeak.OldWeak}

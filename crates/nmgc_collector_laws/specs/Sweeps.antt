@@ -2,7 +2,7 @@
 use Rattle.std.specs.Prelude.{ℕ, ◌↔◌, List, map}
 use Rattle.nmgc_world_spec.specs.{declared.value.Name.Name, World.World}
 use Rattle.nmgc_object.specs.declared.layout.Layout.{Layout}
-use Rattle.nmgc_alloc.specs.{AllocState.Segments, AllocState.AllocState, AllocState.StandsFor, Segments.IsWaiting, CycleSteps.carried_over, Settled.AreSettled}
+use Rattle.nmgc_alloc.specs.{AllocState.Segments, AllocState.AllocState, AllocState.StandsFor, Segments.IsWaiting, AllocState.carried_over, Settled.AreSettled}
 use Rattle.nmgc_stop_spec.specs.{Occupied.KeepsMarks, Cycle.PlacesEach, Cycle.Cycle}
 use Rattle.nmgc_sweep.specs.{Sweeping.IsSweeping, Seen.CycleSeen, Seen.SweeperSeen}
 

@@ -1,5 +1,5 @@
 -- All names of std, of the crates below and of this crate's definitions that the proofs use.
-pub use Rattle.nmgc_alloc.specs.{AllocState.AllocState, AllocState.Cells, AllocState.IsIn, AllocState.LiesIn, AllocState.NoneIs, AllocState.SweepsEach, AllocState.SweepsSome, AllocState.all_empty, AllocState.all_retired, AllocState.cells, AllocState.cycle_begun, AllocState.name_in, AllocState.no_cells, AllocState.retired_state, AllocState.prepared, AllocState.Segments, AllocState.block_place, AllocState.is, AllocState.nth, AllocState.StandsFor, Invariant.HasBlock, CycleSteps.carried_over, CycleSteps.retired, Segments.HasNone, Segments.IsCurrent, Segments.IsMember, Segments.IsSegments, Segments.IsWaiting, Segments.all_free, Settled.AreSettled, laws.Cells.begun_names, laws.Cells.retired_cells, laws.Cells.retired_names, laws.Common.prepared_current, laws.Common.prepared_in, laws.Counts.none_sweeping, laws.Counts.sweeping_none, laws.Keeping.carried_stands, laws.Keeping.counts_stand, laws.Numbers.nth-map, laws.Numbers.nth_free, laws.OneState.first_cells, laws.OneState.first_stands, laws.Sweeping.none_to_sweep, laws.Turning.prepared_stands, laws.Turning.retired_stands}
+pub use Rattle.nmgc_alloc.specs.{AllocState.AllocState, AllocState.Cells, AllocState.IsIn, AllocState.LiesIn, AllocState.NoneIs, AllocState.SweepsEach, AllocState.SweepsSome, AllocState.all_empty, AllocState.all_retired, AllocState.cells, AllocState.cycle_begun, AllocState.name_in, AllocState.no_cells, AllocState.retired_state, AllocState.prepared, AllocState.Segments, AllocState.block_place, AllocState.is, AllocState.nth, AllocState.StandsFor, Invariant.HasBlock, AllocState.carried_over, CycleSteps.retired, Segments.HasNone, Segments.IsCurrent, Segments.IsMember, Segments.IsSegments, Segments.IsWaiting, Segments.all_free, Settled.AreSettled, laws.Cells.begun_names, laws.Cells.retired_cells, laws.Cells.retired_names, laws.Common.prepared_current, laws.Common.prepared_in, laws.Counts.none_sweeping, laws.Counts.sweeping_none, laws.Keeping.carried_stands, laws.Keeping.counts_stand, laws.Numbers.nth-map, laws.Numbers.nth_free, laws.OneState.first_cells, laws.OneState.first_stands, laws.Sweeping.none_to_sweep, laws.Turning.prepared_stands, laws.Turning.retired_stands}
 pub use Rattle.nmgc_stop_spec.specs.{Cycle.Cycle, Cycle.IsKeptIn, Cycle.IsPlaceAtStop, Cycle.IsPromoted, Cycle.PlacesEach, Kept.IsKeptObject, Kept.interval_of, Nurseries.AreEmpty, Nurseries.AreUsed, Nurseries.LieInOrder, Nurseries.nursery_at, Occupied.AreBlocks, Occupied.KeepsMarks, Remembers.Remembers, Stopped.IsRoundOf, Stopped.IsSettled, Stopped.IsStopped, Stopped.Stopped, Stopped.young_base, laws.Blocks.is_block}
 pub use Rattle.nmgc_collector_laws.specs.{Calls.AddIsMarking, Calls.SnapshotIsMarking, Closes.ClosingIsPaced, Closes.ClosingIsSoon, Collector.AreAtRest, Collector.AreNurseries, Collector.EachMutator, Collector.HasReserve, Collector.HoldsInCycle, Collector.IsAfterRound, Collector.IsAtStop, Collector.IsEmptied, Collector.IsMarking, Collector.IsPacedAfterRound, Collector.IsPacedAtStop, Collector.Matches, CycleCloses.HasClosed as IsClosedBy, Drops.DropsFreed, Drops.FreesUntracked, Drops.StopFreesUntracked, Drops.SweptHoldsAtStop, Heaps.AreShown, Heaps.HeapRests, Heaps.IsRoundFrom, Heaps.MarkedHolds, Joins.HaveJoinedList, Joins.HaveMoved, Joins.IsAliveAt, Joins.JoinersAreNew, Joins.JoiningLists, Joins.weak_header, Keeps.HasLeft, Keeps.PaceAtStop, Keeps.PaceBegins, Keeps.Scans, Keeps.ShowEntries, Marker.IsCoreOf, Owed.gathered, Prepares.StopBegins, Prepares.StopIsPrepared, Prepares.all_prepared, Resolves.ClosedCycleSweeps, Resolves.ClosedHolds, Resolves.FinalisersInHand as HaveJoinedInRun, Resolves.FinishMayResolve, Resolves.IsClosingOf, Resolves.IsStopOf, Resolves.ResolveCloses, Resolves.ShowsDeaths, Resolves.closed_state, Resolves.finished_on, Resolves.stop_opening, Rest.IsAtRest, Rest.IsResting, RestMarking.IsAtRestMarking as RestsBeside, RestMarking.IsMachineAtRest, RestMarking.opening_beside, RestMarking.with_rows, Seen.CollectorSeen, Seen.MutatorSeen, Seen.end_of, Seen.ends_of, Seen.finalised_in, Seen.nurseries_of, Seen.recorded_in, Seen.young_weaks_in, Sweeps.HasPlaced, Sweeps.MarkedWait, Sweeps.all_carried, Tie.CoreHasSnapshot, Tie.RoundBeginsTied, Turn.RoundIsHistory, Turn.RoundIsStopped, Turn.RoundListsFinalised, Turn.SlicesAreDone, Turn.SlicesAreGathered, Turn.stop_after, Worked.Done, Worked.HaveWorked, Worked.ListsFinalised, Worked.finalised_of, Worked.recorded_of, laws.Longer.stops_are_of_longer}
 pub use Rattle.nmgc_collector_laws.specs.laws.Remembering.{round_is_remembered}

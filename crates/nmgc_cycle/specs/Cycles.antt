@@ -1,7 +1,7 @@
 -- The collector beside the mutators, and the steps of a stop that advance a cycle.
 use Rattle.std.specs.Prelude.{ℕ, ◌≡◌, ◌⊎◌, ◌↔◌, ◌+◌, ◌-◌, ◌/◌, ◌≤◌, ◌<◌, ◌++◌, ◌∷◌, List, [], length, map, slice_get, Some, true, false, IsSome}
 use Rattle.nmgc_alloc.specs.declared.search.Category.TheVariants as sought
-use Rattle.nmgc_alloc.specs.{AllocState.AllocState, AllocState.StandsFor, AllocState.Segments, Segments.HasNone, Segments.IsSegments, CycleSteps.carried_over}
+use Rattle.nmgc_alloc.specs.{AllocState.AllocState, AllocState.StandsFor, AllocState.Segments, Segments.HasNone, Segments.IsSegments, AllocState.carried_over}
 use Rattle.nmgc_collector_laws.specs.{Calls.all_entries, Worked.registers_of, Resolves.finished_on}
 pub use Rattle.nmgc_collector_laws.specs.Prepares.{all_prepared}
 use Rattle.nmgc_journal.specs.declared.report.CycleRow.{CycleRow}

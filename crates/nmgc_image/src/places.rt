@@ -115,9 +115,8 @@ fn visit_segment(
     if is_free(report.segments.state(number)) {
         return Ok(());
     }
-    let segment = report.segments.segment(number);
-    for block in 0..segment.blocks() {
-        if segment.in_use(block) {
+    for block in 0..report.segments.blocks(number) {
+        if report.segments.in_use(number, block) {
             let at = report.segments.place_of(number, block).0;
             visit_block(search, report, weaks, at)?;
         }

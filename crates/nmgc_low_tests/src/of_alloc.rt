@@ -124,6 +124,39 @@ fn a_cycle(rt: HostRuntime) -> Result<(), Fail> {
     Ok(())
 }
 
+// Compares the answers on block 0 of segment 0: it is in use, in the snapshot, and marked with the epoch and no other.
+fn is_carried(rt: &impl Abort, segments: &Segments, epoch: u8) {
+    assert!(rt; 1 <= epoch && epoch <= 2);
+    assert!(rt; 0 < segments.layout().segments);
+    assert!(rt; segments.state(0) == State::Current { mutator: 0 });
+    assert!(rt; 0 < segments.blocks(0));
+    assert!(rt; segments.in_use(0, 0));
+    assert!(rt; segments.in_snapshot(0, 0));
+    assert!(rt; segments.is_marked(0, 0, epoch));
+    assert!(rt; !segments.is_marked(0, 0, 3 - epoch));
+}
+
+// A mark is carried over late: readers see it at once, and no difference after the pass. Then the next cycle marks anew.
+#[test]
+fn a_late_carry(rt: HostRuntime) -> Result<(), Fail> {
+    let layout = layout!(segments: 32, words: 64, nursery: 64, mutators: 2);
+    assert!(rt; layout.words.is_power_of_two());
+    let mut segments = Segments::new(rt.alloc(), layout)?;
+    assert!(rt; place(&rt, &mut segments, 0, 0) == 32);
+    begin(&rt, &mut segments);
+    mark(&rt, &mut segments, 32, 1, true);
+    segments.carry(2);
+    is_carried(&rt, &segments, 2);
+    segments.catch_up();
+    is_carried(&rt, &segments, 2);
+    segments.carry(1);
+    is_carried(&rt, &segments, 1);
+    begin(&rt, &mut segments);
+    mark(&rt, &mut segments, 32, 2, true);
+    is_carried(&rt, &segments, 2);
+    Ok(())
+}
+
 // Each allocation fills a segment and each sweep frees one, so a search through all segments for each would take 300,000,000
 // steps, in each of the cycles.
 #[test]

@@ -18,7 +18,7 @@
 //! clearing marks. While it marks, a byte of the other epoch is an unmarked block that an earlier cycle kept.
 ghost use Rattle.std.specs.Prelude.{◌≡◌, ◌≢◌, ℕ, ◌↔◌, ◌+◌, ◌<◌, ◌≤◌, ◌==◌, not, map, length, slice_index, IsTrue};
 ghost use Rattle.std.specs.{List.prefix_len, Simd.Lanes.chunk, Simd.Lanes.put_chunk};
-ghost use Rattle.nmgc_segment.specs.{Marks.IsEpoch, Marks.carried, Marks.swept, Marks.IsFirst, Marks.IsFirstUnmarked, Kept.ShowsMarked};
+ghost use Rattle.nmgc_segment.specs.{Marks.IsEpoch, Segment.carried, Marks.swept, Marks.IsFirst, Marks.IsFirstUnmarked, Kept.ShowsMarked};
 
 use std::simd::prelude::*;
 

@@ -98,7 +98,7 @@ fn waiting_segments(alloc: Global, segments: &Segments) -> Result<Vec<u32>, NoMe
     ensures { IfOk result (λ numbers. ListsNumbers (IsWaiting segments.now) numbers.items) }
 {
     let count = segments.sweep_count();
-    let mut numbers = Vec::new(alloc);
+    let mut numbers = Vec::with_capacity(alloc, count as usize)?;
     for number in 0..segments.layout().segments {
         if has_all(&numbers, count) {
             return Ok(numbers);

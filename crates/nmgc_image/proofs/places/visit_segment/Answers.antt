@@ -1,4 +1,4 @@
-use Rattle.nmgc_image.proofs.{Vocabulary.ℕ, Vocabulary.◌≡◌, Vocabulary.◌≢◌, Vocabulary.◌∙◌, Vocabulary.◌+◌, Vocabulary.sym, Vocabulary.ap, Vocabulary.subst, Vocabulary.arith, Vocabulary.true, Vocabulary.false, Vocabulary.Contains, Vocabulary.Segment, Vocabulary.InUse, Vocabulary.block_count, Vocabulary.nth, Vocabulary.IsBlockAt, Vocabulary.name_in, Vocabulary.Visits, Vocabulary.IsWeakBlock, Vocabulary.IsWeakIn, Searching.visits_none, Searching.visits_same, Visiting.Below, Visiting.below_next, Visiting.below_same, Visiting.below_all, places.visit_segment.Goals.then-in_use+in_ok-visit_block, places.visit_segment.Goals.else-in_use}
+use Rattle.nmgc_image.proofs.{Vocabulary.ℕ, Vocabulary.◌≡◌, Vocabulary.◌≢◌, Vocabulary.◌∙◌, Vocabulary.◌+◌, Vocabulary.sym, Vocabulary.subst, Vocabulary.arith, Vocabulary.true, Vocabulary.false, Vocabulary.Contains, Vocabulary.InUse, Vocabulary.nth, Vocabulary.IsBlockAt, Vocabulary.name_in, Vocabulary.Visits, Vocabulary.IsWeakBlock, Vocabulary.IsWeakIn, Searching.visits_none, Searching.visits_same, Visiting.Below, Visiting.below_next, Visiting.below_same, Visiting.below_all, places.visit_segment.Goals.then-in_use+in_ok-visit_block, places.visit_segment.Goals.else-in_use}
 use Rattle.nmgc_segment.specs.declared.state.State.TheVariants as state
 use Rattle.nmgc_image.proofs.places.visit_segment.Goals as goal
 
@@ -13,7 +13,7 @@ visit_block-requires-clause-block c =
     let not_free : (nth c.args.report.now.segments.segments c.args.number).state ≢ state.Free = λ e.
     let t : c.is_free.result ≡ true = c.is_free.ensures.1 (is ∙ e) in let f : c.is_free.result ≡ false = c.if-is_free.false in cc in
     let used : InUse (nth c.args.report.now.segments.segments c.args.number) c.loop-block.block =
-    subst (λ (s : Segment). InUse s c.loop-block.block) c.segment-segment.ensures (c.in_use.ensures.0 c.if-in_use.true) in
+    c.in_use.ensures.0 c.if-in_use.true in
     (c.args.number, c.loop-block.block, c.place_of-at.ensures.begins not_free, used)
 
 pub loop-block-preserved : goal.loop-block-preserved
@@ -24,7 +24,7 @@ loop-block-preserved c =
     elim c.if-in_use.branch [
       | then-in_use+in_ok-visit_block w ↦
           let used : InUse (nth c.args.report.now.segments.segments c.args.number) c.loop-block.block =
-          subst (λ (s : Segment). InUse s c.loop-block.block) c.segment-segment.ensures (c.in_use.ensures.0 w.if-in_use.true) in
+          c.in_use.ensures.0 w.if-in_use.true in
           let begins : IsBlockAt c.args.report.now.segments c.args.number c.loop-block.block w.place_of-at.result.0 = w.place_of-at.ensures.begins not_free in
           let v : Visits (IsWeakBlock c.args.report.now c.args.number c.loop-block.block) c.loop-block.search w.visit_block.new.search =
           visits_same (λ place. (place ≡ w.place_of-at.result.0) ×
@@ -44,7 +44,7 @@ loop-block-preserved c =
       | else-in_use w ↦
           subst (Visits (Below (IsWeakBlock c.args.report.now c.args.number) (c.loop-block.block + 1)) c.args.search.now) (sym w.search-is)
           (below_same (IsWeakBlock c.args.report.now c.args.number) c.loop-block.block c.args.search.now c.loop-block.search c.loop-block.invariant (λ at h.
-          let t : c.in_use.result ≡ true = c.in_use.ensures.1 (subst (λ (s : Segment). InUse s c.loop-block.block) (sym c.segment-segment.ensures) h.used) in
+          let t : c.in_use.result ≡ true = c.in_use.ensures.1 h.used in
           let f : c.in_use.result ≡ false = w.if-in_use.false in
           cc))
     ]
@@ -52,8 +52,6 @@ loop-block-preserved c =
 pub returns : goal.returns
 returns c = below_all (IsWeakBlock c.args.report.now c.args.number) c.loop-block.block c.args.search.now c.loop-block.search (λ k at h.
     let within = h.begins.within in
-    let same : block_count c.segment-segment.result.now ≡ block_count (nth c.args.report.now.segments.segments c.args.number) =
-    ap block_count c.segment-segment.ensures in
     let count = c.blocks-block-end.ensures in
     let all = c.loop-block-test.false in
-    omega (arith, within, same, count, all)) c.loop-block.invariant
+    omega (arith, within, count, all)) c.loop-block.invariant
