@@ -1,5 +1,5 @@
 -- The debts after names came due, and after paid debts left a queue.
-use Rattle.std.proofs.{Common.◌≡◌, Common.◌≢◌, Common.◌<◌, Common.◌≤◌, Common.◌+◌, Common.ℕ, Common.List, Common.[], Common.◌∷◌, Common.◌++◌, Common.zero, Common.suc, Common.length, Common.set, Common.take, Common.get_or, Common.refl, Common.sym, Common.ap, Common.subst, Common.◌∙◌, Common.arith, Common.length-set, Common.replicate, Common.append-nil, Common.append_assoc, Common.Option, Common.Some, Common.None, Common.Bool, Common.true, Common.false, Common.not, Common.cond, Common.inl, Common.inr, Common.◌⊎◌, lemmas.Bool.cases_Bool, lemmas.Bool.cases_eq, lemmas.Bool.cases_lt, lemmas.Bool.and_cases, lemmas.Bool.and_parts, lemmas.Bool.not-false, lemmas.List.get_or-set_same, lemmas.List.get_or-set_other, lemmas.List.get_or_past, lemmas.List.take_more, lemmas.List.length-replicate, lemmas.Option.slice_get_within, lemmas.Option.slice_get-get_or, lemmas.Option.get_or_from_slice_get, lemmas.List.Elements.filter-append, lemmas.List.Elements.Contains-append_left, lemmas.List.Elements.Contains-append_right, lemmas.List.Elements.Contains-append_cases}
+use Rattle.std.proofs.{Common.max, Common.leb, Common.◌≡◌, Common.◌≢◌, Common.◌<◌, Common.◌≤◌, Common.◌+◌, Common.ℕ, Common.List, Common.[], Common.◌∷◌, Common.◌++◌, Common.zero, Common.suc, Common.length, Common.set, Common.take, Common.get_or, Common.refl, Common.sym, Common.ap, Common.subst, Common.◌∙◌, Common.arith, Common.length-set, Common.replicate, Common.append-nil, Common.append_assoc, Common.Option, Common.Some, Common.None, Common.Bool, Common.true, Common.false, Common.not, Common.cond, Common.inl, Common.inr, Common.◌⊎◌, lemmas.Bool.cases_Bool, lemmas.Bool.cases_eq, lemmas.Bool.cases_lt, lemmas.Bool.le-leb, lemmas.Bool.and_cases, lemmas.Bool.and_parts, lemmas.Bool.not-false, lemmas.List.get_or-set_same, lemmas.List.get_or-set_other, lemmas.List.get_or_past, lemmas.List.take_more, lemmas.List.length-replicate, lemmas.Option.slice_get_within, lemmas.Option.slice_get-get_or, lemmas.Option.get_or_from_slice_get, lemmas.List.Elements.filter-append, lemmas.List.Elements.Contains-append_left, lemmas.List.Elements.Contains-append_right, lemmas.List.Elements.Contains-append_cases}
 use Rattle.std.specs.Prelude.{All, Contains, IsSome, filter, slice_get, ◌&&◌}
 use Rattle.nmgc_world_spec.specs.{declared.value.Name.Name, World.World, World.node_of, laws.Orders.name_cases}
 use Rattle.nmgc_graph.specs.{Marks.HasPlace, Marks.HasPlaces, Marks.IsMarked, Marks.mark_of, Marks.with_mark, laws.Rows.kept_others, laws.Rows.places_kept, laws.Rows.makers_kept, laws.Rows.name_placed}
@@ -7,7 +7,8 @@ use Rattle.nmgc_lists.specs.{laws.Items.contains_head, laws.Items.nothing_in, la
 use Rattle.nmgc_barrier_laws.specs.declared.debt.Debt.{Debt}
 use Rattle.nmgc_barrier_checker.specs.{declared.accounts.Accounts.Accounts, Accounts.is_unpaid, Accounts.unpaid, Accounts.IsPaidUp, Accounts.queue_of, Accounts.set_of, Accounts.all_debts, Accounts.debt_of, Accounts.AreAccounts, Accounts.AreNew, Accounts.is_new, Accounts.owed_one, Accounts.IsOwing, Accounts.IsForgotten, Accounts.IsLeastIn}
 use Rattle.nmgc_snapshot_laws.specs.Machine.{is_pushed_in}
-use Rattle.nmgc_barrier_checker.proofs.{Filters.kept_in, Filters.in_kept, DueLaws.owable_is}
+use Rattle.nmgc_barrier_checker.specs.First.{IsEarlier, IsEarliest}
+use Rattle.nmgc_barrier_checker.proofs.{Filters.kept_in, Filters.in_kept, Firsts.earlier_trans, Firsts.not_earlier_itself, DueLaws.owable_is}
 
 -- the debts of a queue are among all debts, and each debt of all is in some queue
 pub in_all : (queues : List (List Debt)) (m : ℕ) (debt : Debt) → Contains (queue_of queues m) debt → Contains (all_debts queues) debt
@@ -51,6 +52,7 @@ module _ (snapshot : World) (marks : List (List Bool)) (a : Accounts) (d : Debt)
   after = record {
     debts = set a.debts d.mutator (queue_of a.debts d.mutator ++ d ∷ []);
     names = set a.names d.mutator (with_mark (set_of a.names d.mutator) d.name);
+    newest = max a.newest d.line;
   }
 
   lt_set : d.mutator < length a.names
@@ -122,6 +124,10 @@ module _ (snapshot : World) (marks : List (List Bool)) (a : Accounts) (d : Debt)
         | inl old ↦ k.there j debt old
         | inr p ↦
             subst (λ (x : Debt). IsSome (node_of snapshot x.name)) p.1 there
+      ];
+      newest = λ j debt c. elim (queue_cases j debt c) [
+        | inl old ↦ let le : debt.line ≤ a.newest = k.newest j debt old in omega arith
+        | inr p ↦ let same : d.line ≡ debt.line = ap (λ (x : Debt). x.line) p.1 in omega arith
       ];
       owes = λ j n c. elim (cases_eq j d.mutator) [
         | inl e ↦ elim (name_cases n d.name) [
@@ -297,6 +303,7 @@ module _ (marks : List (List Bool)) (m : ℕ) (a b : Accounts) (lt : m < length 
         HasPlaces snapshot (set_of l j)) (sym f.names) (k.places j (subst (λ (n : ℕ). j < n) forgotten_count ltj));
     own = λ j debt c. k.own j debt (fewer j debt c);
     there = λ j debt c. k.there j debt (fewer j debt c);
+    newest = λ j debt c. subst (λ (n : ℕ). debt.line ≤ n) (sym f.newest) (k.newest j debt (fewer j debt c));
     owes = λ j n c. elim (k.owes j n (subst (λ (l : List (List (List Bool))). mark_of (set_of l j) n ≡ true) f.names c)) [
       | inl x ↦ inl x
       | inr o ↦ elim (cases_Bool (mark_of marks o.0.name)) [
@@ -333,16 +340,16 @@ none_own snapshot marks m a k none d c own =
     Contains (queue_of a.debts i) d) is s.there) s.free))
 
 pub some_own : (snapshot : World) (marks : List (List Bool)) (m : ℕ) (a : Accounts) → AreAccounts marks snapshot a → (d : Debt) →
-    slice_get (unpaid marks (queue_of a.debts m)) 0 ≡ Some d → Contains (unpaid marks (all_debts a.debts)) d × (d.mutator ≡ m)
+    IsEarliest (Contains (unpaid marks (queue_of a.debts m))) d →
+    IsEarliest (λ x. Contains (unpaid marks (all_debts a.debts)) x × (x.mutator ≡ m)) d
 some_own snapshot marks m a k d e =
-    let p : Contains (queue_of a.debts m) d × (is_unpaid marks d ≡ true) =
-    in_kept (is_unpaid marks) (queue_of a.debts m) d (contains_at (unpaid marks (queue_of a.debts m)) 0 d e) in
-    (unpaid_all marks a.debts m d p.0 p.1, k.own m d p.0)
-
--- if the first debt is unpaid, it is the first of the unpaid debts
-pub first_counts : (marks : List (List Bool)) (debts : List Debt) → IsPaidUp marks debts → slice_get debts 0 ≡ slice_get (unpaid marks debts) 0
-first_counts marks [] h = refl
-first_counts marks (x ∷ debts) h = let e : mark_of marks x.name ≡ false = h in rw e refl
+    let p : Contains (queue_of a.debts m) d × (is_unpaid marks d ≡ true) = in_kept (is_unpaid marks) (queue_of a.debts m) d e.0 in (
+      (unpaid_all marks a.debts m d p.0 p.1, k.own m d p.0),
+      λ other o.
+          let s : StandsIn marks a.debts other = stands marks a.debts other o.0 in
+          let is : s.m ≡ m = sym (k.own s.m other s.there) ∙ o.1 in
+          e.1 other (kept_in (is_unpaid marks) (queue_of a.debts m) other (subst (λ (i : ℕ). Contains (queue_of a.debts i) other) is s.there) s.free),
+    )
 
 -- an item is the same, whatever the default for a missing item
 pub item_is : {A : Type 0} (xs ys : List A) (i : ℕ) (d d' : A) → xs ≡ ys → i < length ys → get_or xs i d ≡ get_or ys i d'
@@ -368,32 +375,29 @@ new_are snapshot a n e is sets places free = record {
   ];
 }
 
--- the debt of the least line after one more debt
+-- the earliest debt after one more debt
 pub least_more : (xs : List Debt) (o : Option Debt) (d e : Debt) → IsLeastIn xs o →
-    ((x : Debt) → o ≡ Some x → ((e ≡ x) × (x.line ≤ d.line)) ⊎ ((e ≡ d) × (d.line ≤ x.line))) → (o ≡ None → e ≡ d) → IsLeastIn (xs ++ d ∷ []) (Some e)
+    ((x : Debt) → o ≡ Some x → ((e ≡ x) × (IsEarlier d x → ⊥)) ⊎ ((e ≡ d) × IsEarlier d x)) → (o ≡ None → e ≡ d) → IsLeastIn (xs ++ d ∷ []) (Some e)
 least_more xs None d e h some none = (
   subst (λ (x : Debt). Contains (xs ++ d ∷ []) x) (sym (none refl)) (Contains-append_right xs (d ∷ []) d (contains_one d)),
-  λ other c. elim (Contains-append_cases xs (d ∷ []) other c) [
+  λ other c before. elim (Contains-append_cases xs (d ∷ []) other c) [
     | inl old ↦ absurd (nothing_in other (subst (λ (l : List Debt). Contains l other) h old))
-    | inr new ↦ let is : e ≡ other = none refl ∙ one_is d other new in let same : e.line ≡ other.line = ap (λ (x : Debt). x.line) is in omega arith
+    | inr new ↦ not_earlier_itself d (subst (λ (x : Debt). IsEarlier x d) (sym (one_is d other new)) (subst (λ (x : Debt). IsEarlier other x) (none refl) before))
   ],
 )
 least_more xs (Some x) d e h some none = elim (some x refl) [
   | inl p ↦ (
     subst (λ (y : Debt). Contains (xs ++ d ∷ []) y) (sym p.0) (Contains-append_left xs (d ∷ []) x h.0),
-    λ other c. elim (Contains-append_cases xs (d ∷ []) other c) [
-      | inl old ↦ let le : x.line ≤ other.line = h.1 other old in let same : e.line ≡ x.line = ap (λ (y : Debt). y.line) p.0 in omega arith
-      | inr new ↦ let is : d.line ≡ other.line = ap (λ (y : Debt). y.line) (one_is d other new) in
-          let same : e.line ≡ x.line = ap (λ (y : Debt). y.line) p.0 in let le : x.line ≤ d.line = p.1 in omega arith
+    λ other c before. elim (Contains-append_cases xs (d ∷ []) other c) [
+      | inl old ↦ h.1 other old (subst (λ (y : Debt). IsEarlier other y) p.0 before)
+      | inr new ↦ p.1 (subst (λ (y : Debt). IsEarlier y x) (sym (one_is d other new)) (subst (λ (y : Debt). IsEarlier other y) p.0 before))
     ],
   )
   | inr p ↦ (
     subst (λ (y : Debt). Contains (xs ++ d ∷ []) y) (sym p.0) (Contains-append_right xs (d ∷ []) d (contains_one d)),
-    λ other c. elim (Contains-append_cases xs (d ∷ []) other c) [
-      | inl old ↦ let le : x.line ≤ other.line = h.1 other old in let same : e.line ≡ d.line = ap (λ (y : Debt). y.line) p.0 in
-          let less : d.line ≤ x.line = p.1 in omega arith
-      | inr new ↦ let is : d.line ≡ other.line = ap (λ (y : Debt). y.line) (one_is d other new) in
-          let same : e.line ≡ d.line = ap (λ (y : Debt). y.line) p.0 in omega arith
+    λ other c before. elim (Contains-append_cases xs (d ∷ []) other c) [
+      | inl old ↦ h.1 other old (earlier_trans other d x (subst (λ (y : Debt). IsEarlier other y) p.0 before) p.1)
+      | inr new ↦ not_earlier_itself d (subst (λ (y : Debt). IsEarlier y d) (sym (one_is d other new)) (subst (λ (y : Debt). IsEarlier other y) p.0 before))
     ],
   )
 ]
@@ -404,7 +408,7 @@ pub least_paid : (marks : List (List Bool)) (before : List Debt) (o : Option Deb
 least_paid marks before o d e h = subst (λ (l : List Debt). IsLeastIn l o) (sym (ap (λ (b : Bool). before ++ cond (not b) (d ∷ []) []) e ∙ append-nil before)) h
 
 pub least_unpaid : (marks : List (List Bool)) (before : List Debt) (o : Option Debt) (d e : Debt) → mark_of marks d.name ≡ false →
-    IsLeastIn before o → ((x : Debt) → o ≡ Some x → ((e ≡ x) × (x.line ≤ d.line)) ⊎ ((e ≡ d) × (d.line ≤ x.line))) → (o ≡ None → e ≡ d) →
+    IsLeastIn before o → ((x : Debt) → o ≡ Some x → ((e ≡ x) × (IsEarlier d x → ⊥)) ⊎ ((e ≡ d) × IsEarlier d x)) → (o ≡ None → e ≡ d) →
     IsLeastIn (before ++ unpaid marks (d ∷ [])) (Some e)
 least_unpaid marks before o d e free h some none = subst (λ (l : List Debt).
     IsLeastIn l (Some e)) (sym (ap (λ (b : Bool). before ++ cond (not b) (d ∷ []) []) free)) (least_more before o d e h some none)
@@ -430,3 +434,11 @@ least_queue marks queues i blank o lt h = subst (λ (l : List Debt).
     flat_one : (xs : List (List Debt)) (q : List Debt) → all_debts (xs ++ q ∷ []) ≡ all_debts xs ++ q
     flat_one [] q = append-nil q
     flat_one (x ∷ xs) q = ap (λ (l : List Debt). x ++ l) (flat_one xs q) ∙ sym (append_assoc x (all_debts xs) q)
+
+-- a debt has no line above the newest
+pub may_owe : (snapshot : World) (marks : List (List Bool)) (a : Accounts) (n : ℕ) (d : Debt) → AreAccounts marks snapshot a →
+    Contains (unpaid marks (all_debts a.debts)) d → d.line ≡ n → leb n a.newest ≡ true
+may_owe snapshot marks a n d k c e =
+    let s : StandsIn marks a.debts d = stands marks a.debts d c in
+    let le : d.line ≤ a.newest = k.newest s.m d s.there in
+    le-leb n a.newest (omega (arith, le, e))

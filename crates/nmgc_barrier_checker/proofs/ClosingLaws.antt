@@ -1,4 +1,5 @@
 -- Weak pointers at an end: dying, and alive until then; reported as dying; and living on, with the names that they keep.
+use Rattle.nmgc_barrier_checker.proofs.Firsts.{stands_by}
 use Rattle.nmgc_barrier_checker.proofs.Vocabulary.{◌≡◌, List, [], ◌∷◌, ◌++◌, get_or, refl, sym, subst, Option, Some, None, Bool, true, not, inl, inr, All, Contains, IsSome, filter, ◌↔◌, and_parts, and_from, Contains-get_or, Contains-append_left, Contains-append_right, Contains-append_cases, All-append, All-contains, Name, Value, Parts, Weak, World, node_of, IsKnown, IsNodeOf, IsWorld, IsMarked, mark_of, IsSetOf, parts_of, IsAlive, IsDead, IsKept, IsAliveWeak, Lists, contains_head, at_some, nothing_in, one_is, contains_one, contains_flat, flat_contains, contains_filter, filter_contains, name_among, Cycle, IsKeyLeft, AreKeysLeft, Needs, IsDeadAmong, dead_same, kept_same, Accounts, NameSet, IsCycle, is_outside, key_names, keys_then, IsOpenedWith, IsMissingIf, IsDeadIf, alive_parts, parts_alive, weak_there}
 use Rattle.nmgc_world_spec.specs.declared.value.Value.TheVariants as value
 use Rattle.nmgc_barrier_checker.proofs.{CycleLaws.seen, CycleLaws.not_both, CycleLaws.not_so, DueLaws.among_ref, ListedLaws.all_listed}
@@ -117,7 +118,9 @@ module _ (h : Cycle) (dead names : List Name) (o : IsOpenedWith h dead names) wh
   pub dead_if : (found : List Name) (other : Option Name) → Lists (IsDead h.snapshot names h.finalised) found → IsMissingIf found dead other →
       IsDeadIf h dead other
   dead_if found None l m = λ weak c. (dead_named weak).0 (l.sound weak (m weak c))
-  dead_if found (Some weak) l m = (m.0, λ d. m.1 (l.complete weak ((dead_named weak).1 d)))
+  dead_if found (Some weak) l m =
+      stands_by (λ n. Contains found n → ⊥) (λ n. IsDeadAmong h dead n → ⊥) dead weak (λ n never d. never (l.complete n ((dead_named n).1 d)))
+      (λ n never c. never ((dead_named n).0 (l.sound n c))) m
 
 module _ (w s : World) (remembered opened taken : NameSet) (accounts : Accounts) (finalised : List Name)
     (k : IsCycle w s remembered accounts opened taken finalised) where

@@ -1,7 +1,8 @@
 -- The facts of a cycle that a command, a push and a take keep.
-use Rattle.nmgc_barrier_checker.proofs.Vocabulary.{◌≡◌, ◌≢◌, ◌<◌, ℕ, List, [], ◌∷◌, ◌++◌, length, get_or, refl, sym, ap, subst, ◌∙◌, Option, Some, None, Bool, true, false, not, inl, inr, Bor, All, Contains, IsSome, is_some, is_none, option_copied, filter, ◌↔◌, and_cases, and_parts, not-false, Contains-append_left, Contains-append_right, SHARED_MAKER, Name, Value, Command, World, node_of, state_of, IsWorld, is_same_name, CanApply, step, shared_name, IsAlive, opened_by, finalised_by, mark_of, IsMarked, not_shared, Names, step_alive, tested_same, is_same_name-refl, Debt, Cycle, watching, IsPushed, IsTook, Accounts, NameSet, Field, stands_in, IsStanding, kept_then, targets, is_unpaid, unpaid, all_debts, AreAccounts, AreNew, IsOwing, IsListed, Joins, joined, IsCycle, IsTaken, IsUntakenIn, IsUntakenIf, copied_is_some, Contains-append_cases, filter_contains, contains_filter, replicate, map, MutatorState}
+use Rattle.nmgc_barrier_checker.proofs.Vocabulary.{◌≡◌, ◌≢◌, ◌<◌, ℕ, List, [], ◌∷◌, ◌++◌, length, get_or, refl, sym, ap, subst, ◌∙◌, Option, Some, None, Bool, true, false, not, inl, inr, Bor, All, Contains, IsSome, is_some, is_none, option_copied, filter, ◌↔◌, and_cases, and_parts, not-false, Contains-append_left, Contains-append_right, SHARED_MAKER, Name, Value, Command, World, node_of, state_of, IsWorld, is_same_name, CanApply, step, shared_name, IsAlive, opened_by, finalised_by, mark_of, IsMarked, not_shared, Names, step_alive, tested_same, is_same_name-refl, Debt, Cycle, watching, IsPushed, IsTook, Accounts, NameSet, Field, stands_in, IsStanding, kept_then, targets, is_unpaid, unpaid, all_debts, AreAccounts, AreNew, IsOwing, IsListed, Joins, joined, IsCycle, IsTaken, IsUntakenIn, IsUntakenIf, IsUntakenName, is_untaken, and_from, copied_is_some, Contains-append_cases, filter_contains, contains_filter, replicate, map, MutatorState}
 use Rattle.nmgc_world_spec.specs.declared.value.Value.TheVariants as value
 use Rattle.nmgc_lists.specs.laws.Items.{nothing_in}
+use Rattle.nmgc_world_spec.specs.Reach.{Counts}
 use Rattle.std.proofs.lemmas.List.{length-map}
 use Rattle.nmgc_graph.specs.{Bare.cleared, Bare.without_registers, laws.Bare.bare_node}
 use Rattle.nmgc_snapshot_laws.specs.Machine.{is_pushed_in}
@@ -41,6 +42,7 @@ new_accounts marks s a n = record {
   places = λ m lt. n.places m (subst (λ (k : ℕ). m < k) n.count lt);
   own = λ m d c. absurd (nothing_in d (subst (λ (l : List Debt). Contains l d) (n.queues m) c));
   there = λ m d c. absurd (nothing_in d (subst (λ (l : List Debt). Contains l d) (n.queues m) c));
+  newest = λ m d c. absurd (nothing_in d (subst (λ (l : List Debt). Contains l d) (n.queues m) c));
   owes = λ m name c. absurd (let bad : false ≡ true = sym (n.free m name) ∙ c in cc);
 }
 
@@ -179,6 +181,7 @@ module _ (w s : World) (remembered : NameSet) (accounts : Accounts) (opened take
       places = k.accounts.places;
       own = k.accounts.own;
       there = k.accounts.there;
+      newest = k.accounts.newest;
       owes = λ j n c. elim (k.accounts.owes j n c) [ inl m ↦ inl (joined_keeps s remembered k.remembered name n m) | inr o ↦ inr o ];
     };
     count = k.count;
@@ -268,6 +271,18 @@ module _ (w s : World) (remembered : NameSet) (accounts : Accounts) (opened take
     of_due t (inr d) = contains_filter (is_pushed_in s) (found ++ given_out) t
         (Contains-append_right found given_out t (handed_found before m c k.world can coming comes t d)) (is_owable_by s t d.there d.own)
 
+    pub counts_due : (names : List Name) (count : ℕ) → names ≡ found ++ given_out → Counts (Contains (filter (is_pushed_in s) names)) count →
+        Counts (IsDueIn before m c) count
+    counts_due names count e k = (
+      k.0,
+      record {
+        ordered = k.1.ordered;
+        sound = λ n x. due_of n (subst (λ (l : List Name). Contains (filter (is_pushed_in s) l) n) e (k.1.sound n x));
+        complete = λ n d. k.1.complete n (subst (λ (l : List Name). Contains (filter (is_pushed_in s) l) n) (sym e) (of_due n d));
+      },
+      k.2,
+    )
+
     pub taken_then : (v : World) (accounts' : Accounts) (opened' opened'' : NameSet) (finalised' names : List Name) → v ≡ (step w m c).0 →
         Joins s opened.names (opened_by w m c) opened'.names → Joins s opened'.names given_out opened''.names → finalised' ≡ finalised ++ finalised_by w m c →
         names ≡ found ++ given_out → IsOwing s remembered.set line m names accounts accounts' →
@@ -317,13 +332,24 @@ untaken_if w s remembered accounts opened taken finalised k None some h =
       | inl same ↦ absurd (other (tested_same name shared_name (not-false (is_same_name name shared_name) same)))
       | inr there ↦ (k.taken.same name).0 (not-false (mark_of taken.set name) there)
     ])
-untaken_if w s remembered accounts opened taken finalised k (Some name) some h =
-    let p : (not (is_same_name name shared_name) ≡ true) × (not (mark_of taken.set name) ≡ true) =
-    and_parts (not (is_same_name name shared_name)) (not (mark_of taken.set name)) h.1 in (
-      some,
-      h.0,
-      λ same. not_both (is_same_name name shared_name) (subst (λ (n : Name). is_same_name n shared_name ≡ true) (sym same) (is_same_name-refl shared_name)) p.0,
-      λ c. not_both (mark_of taken.set name) ((k.taken.same name).1 c) p.1,
+untaken_if w s remembered accounts opened taken finalised k (Some name) some h = (to name h.0, λ other u. h.1 other (of other u))
+  where
+    to : (n : Name) → Contains remembered.names n × (is_untaken taken n ≡ true) →
+        IsUntakenName (seen w s remembered accounts opened taken finalised) n
+    to n i =
+        let p : (not (is_same_name n shared_name) ≡ true) × (not (mark_of taken.set n) ≡ true) =
+        and_parts (not (is_same_name n shared_name)) (not (mark_of taken.set n)) i.1 in (
+          some,
+          i.0,
+          λ same. not_both (is_same_name n shared_name) (subst (λ (x : Name). is_same_name x shared_name ≡ true) (sym same) (is_same_name-refl shared_name)) p.0,
+          λ c. not_both (mark_of taken.set n) ((k.taken.same n).1 c) p.1,
+        )
+
+    of : (n : Name) → IsUntakenName (seen w s remembered accounts opened taken finalised) n → Contains remembered.names n × (is_untaken taken n ≡ true)
+    of n u = (
+      u.1,
+      and_from (not (is_same_name n shared_name)) (not (mark_of taken.set n)) (not_so (is_same_name n shared_name) (λ t. u.2 (tested_same n shared_name t)))
+          (not_so (mark_of taken.set n) (λ t. u.3 ((k.taken.same n).0 t))),
     )
 
 -- a reference that isn't there

@@ -1,10 +1,11 @@
 -- Every event can happen or has a reason.
-use Rattle.nmgc_barrier_checker.proofs.Vocabulary.{◌≡◌, ◌≢◌, ◌<◌, ◌≤◌, ℕ, List, [], ◌∷◌, ◌++◌, length, map, refl, sym, ap, subst, ◌∙◌, arith, Bool, true, false, not, cond, inl, inr, ◌⊎◌, eqb, Contains, IsSome, is_some, filter, ◌&&◌, ◌↔◌, cases_Bool, cases_lt, false≢true, and_cases, and_parts, and_from, not-false, eqb-true, eq-eqb, Contains-append_left, Contains-append_right, Contains-append_cases, Name, MutatorState, Command, Reply, is_same_name, World, node_of, IsWorld, step, shared_name, Parts, IsAlive, IsDead, IsKept, Lists, closed, contains_head, contains_tail, contains_cases, nothing_in, one_is, contains_one, step_keeps_world, is_listed, tested_same, is_same_name-refl, contains_listed, not_listed, listed_from, Debt, Cycle, IsPushed, IsAllTaken, IsDeadAmong, Event, Why, CycleResult, Watch, IsUntakenName, IsTaken, keys_then, IsOpenedWith, is_done, CanAct, WhyNoAct, AreDone, StopsAt, mutators_of, IsAbsent, IsAgainst, IsLeft, IsResultWith, is_old, MayFree, WhyKept, Can, IsWhy, AreClosed, EveryEventIsJudged, alive_there, Hybrid, AreScanned, IsWatchedIn, IsScanned, beginning, held_names, is_scanned, scanned_at_once, zero, suc, cases_eq, slice_set, IsTook}
+use Rattle.nmgc_barrier_checker.proofs.Vocabulary.{IsBefore, before_trans, not_before_itself, ◌≡◌, ◌≢◌, ◌<◌, ◌≤◌, ℕ, List, [], ◌∷◌, ◌++◌, length, map, refl, sym, ap, subst, ◌∙◌, arith, Bool, true, false, not, cond, inl, inr, ◌⊎◌, eqb, Contains, IsSome, is_some, filter, ◌&&◌, ◌↔◌, cases_Bool, cases_lt, false≢true, and_cases, and_parts, and_from, not-false, eqb-true, eq-eqb, Contains-append_left, Contains-append_right, Contains-append_cases, Name, MutatorState, Command, Reply, is_same_name, World, node_of, IsWorld, step, shared_name, Parts, IsAlive, IsDead, IsKept, Lists, closed, contains_head, contains_tail, contains_cases, nothing_in, one_is, contains_one, step_keeps_world, is_listed, tested_same, is_same_name-refl, contains_listed, not_listed, listed_from, Debt, Cycle, IsPushed, IsAllTaken, IsDeadAmong, Event, Why, CycleResult, Watch, IsUntakenName, IsTaken, keys_then, IsOpenedWith, is_done, CanAct, WhyNoAct, AreDone, StopsAt, mutators_of, IsAbsent, IsAgainst, IsLeft, IsResultWith, is_old, MayFree, WhyKept, Can, IsWhy, AreClosed, EveryEventIsJudged, alive_there, Hybrid, AreScanned, IsWatchedIn, IsScanned, beginning, held_names, is_scanned, scanned_at_once, zero, suc, cases_eq, slice_set, IsTook}
 use Rattle.nmgc_barrier_checker.specs.declared.event.Event.TheVariants as event
 use Rattle.nmgc_barrier_checker.specs.declared.event.Why.TheVariants as why
 use Rattle.nmgc_barrier_checker.specs.declared.watch.Watch.TheVariants as watch
-use Rattle.nmgc_barrier_checker.specs.Watching.{IsNotDead}
-use Rattle.nmgc_barrier_checker.proofs.{Filters.kept_in, Filters.in_kept, ClosingLaws.keys_are, ClosingLaws.dead_named, ClosingLaws.needs_listed, CycleLaws.not_both, CycleLaws.not_so, Deciding.Decided, Deciding.search, Deciding.all_names, Deciding.listed, Living.dead_decided, Living.dead_listed, Living.kept_listed, Watched.can_cases, Watched.reply_cases, Watched.after, Watched.watched}
+use Rattle.nmgc_barrier_checker.specs.{First.IsEarlier, First.IsEarliest, First.IsFirstName, First.StandsFirst, Watching.IsFirstUnscanned, Watching.IsNotDead}
+use Rattle.nmgc_barrier_checker.proofs.{Firsts.before_cases, Firsts.earlier_cases, Firsts.earlier_trans, Firsts.first_in, Firsts.least, Firsts.not_earlier_itself, Firsts.stands_by, Firsts.stands_head, Firsts.stands_tail, Reasons.no_freed_name}
+use Rattle.nmgc_barrier_checker.proofs.{Filters.kept_in, Filters.in_kept, ClosingLaws.keys_are, ClosingLaws.dead_named, ClosingLaws.needs_listed, CycleLaws.not_both, CycleLaws.not_so, Deciding.Decided, Deciding.all_names, Deciding.listed, Living.dead_decided, Living.dead_listed, Living.kept_listed, Watched.can_cases, Watched.reply_cases, Watched.after, Watched.watched}
 
 -- an event at a line, at some state of the watch
 abbrev Judged : ℕ → Watch → Event → Type 0
@@ -156,7 +157,7 @@ scan : (line m : ℕ) (p : Watch) → Judged line p (event.Scan m)
 scan line m (watch.Between w) = inr (why.Misplaced, refl)
 scan line m (watch.Marking h) = elim (cases_lt m (length h.watch.world.mutators)) [
   | inl lt ↦ elim (cases_Bool (is_scanned h m)) [
-    | inl t ↦ inr (why.Misplaced, inr (refl, t))
+    | inl t ↦ inr (why.Misplaced, inr (refl, t, lt))
     | inr f ↦ inl (watch.Marking (scanned_next h m), (scanned_next h m, scanned h m lt f, refl))
   ]
   | inr le ↦ inr (why.CannotApply, inl (refl, λ lt. let l : m < length h.watch.world.mutators = lt in omega arith))
@@ -233,8 +234,19 @@ push line name watch.Stopped = inr (why.Misplaced, refl)
 settle : (line m : ℕ) (p : Watch) → Judged line p (event.Settle m)
 settle line m (watch.Between w) = inr (why.Misplaced, refl)
 settle line m (watch.Marking h) = elim (cases_lt m (length h.watch.world.mutators)) [
-  | inl lt ↦ elim (search (λ (d : Debt). eqb d.mutator m) h.watch.debts) [
-    | inl f ↦ inr (why.Due f.0, inl (f.0, refl, f.1, eqb-true f.0.mutator m f.2))
+  | inl lt ↦ elim (least IsEarlier earlier_cases earlier_trans not_earlier_itself (λ (d : Debt). eqb d.mutator m) h.watch.debts) [
+    | inl f ↦ inr (
+      why.Due f.0,
+      inl (
+        f.0,
+        refl,
+        (
+          (f.1.0.0, eqb-true f.0.mutator m f.1.0.1),
+          λ other o. f.1.1 other (o.0, eq-eqb other.mutator m o.1),
+        ),
+        lt,
+      ),
+    )
     | inr none ↦ inl (watch.Marking h, ((lt, λ d c own. false≢true (sym (none d c) ∙ eq-eqb d.mutator m own)), refl))
   ]
   | inr le ↦ inr (why.CannotApply, inr (refl, λ lt. let l : m < length h.watch.world.mutators = lt in omega arith))
@@ -269,70 +281,58 @@ take line name (watch.Ended left) = inr (why.Misplaced, refl)
 take line name watch.Stopped = inr (why.Misplaced, refl)
 
 -- the reasons against an end
-least : (debts : List Debt) → (debts ≡ []) ⊎ ((d : Debt) × Contains debts d × ((o : Debt) → Contains debts o → d.line ≤ o.line))
-least [] = inl refl
-least (x ∷ xs) = elim (least xs) [
-  | inl e ↦ inr (
-    x,
-    contains_head x xs,
-    λ o c. elim (contains_cases x xs o c) [
-      | inl same ↦ let is : x.line ≡ o.line = ap (λ (d : Debt). d.line) same in omega arith
-      | inr d ↦ absurd (nothing_in o (subst (λ (l : List Debt). Contains l o) e d))
-    ],
-  )
-  | inr p ↦ elim (cases_lt p.0.line x.line) [
-    | inl lt ↦ inr (
-      p.0,
-      contains_tail x xs p.0 p.1,
-      λ o c. elim (contains_cases x xs o c) [
-        | inl same ↦ let is : x.line ≡ o.line = ap (λ (d : Debt). d.line) same in omega arith
-        | inr d ↦ p.2 o d
-      ],
-    )
-    | inr le ↦ inr (
-      x,
-      contains_head x xs,
-      λ o c. elim (contains_cases x xs o c) [
-        | inl same ↦ let is : x.line ≡ o.line = ap (λ (d : Debt). d.line) same in omega arith
-        | inr d ↦ let less : p.0.line ≤ o.line = p.2 o d in omega arith
-      ],
-    )
-  ]
+earliest : (debts : List Debt) → (debts ≡ []) ⊎ ((d : Debt) × IsEarliest (Contains debts) d)
+earliest [] = inl refl
+earliest (x ∷ xs) = elim (least IsEarlier earlier_cases earlier_trans not_earlier_itself (λ (d : Debt). true) (x ∷ xs)) [
+  | inl p ↦ inr (p.0, (p.1.0.0, λ other c. p.1.1 other (c, refl)))
+  | inr none ↦ absurd (let bad : true ≡ false = none x (contains_head x xs) in cc)
 ]
 
 empty_cases : (names : List Name) → (names ≡ []) ⊎ (names ≢ [])
 empty_cases [] = inl refl
 empty_cases (x ∷ xs) = inr (λ e. cc)
 
-untaken_cases : (h : Cycle) → IsAllTaken h ⊎ ((name : Name) × IsUntakenName h name)
-untaken_cases h = elim (empty_cases h.taken) [
-  | inl e ↦ inl (inl e)
-  | inr some ↦ elim (search (λ n. not (is_same_name n shared_name) && not (is_listed n h.taken)) h.remembered) [
-    | inl f ↦
-        let p : (not (is_same_name f.0 shared_name) ≡ true) ×
-        (not (is_listed f.0 h.taken) ≡ true) = and_parts (not (is_same_name f.0 shared_name)) (not (is_listed f.0 h.taken)) f.2 in
-        inr (
-          f.0,
-          (
-            some,
-            f.1,
-            λ e. let t : is_same_name f.0 shared_name ≡ true = subst (λ (x : Name). is_same_name x shared_name ≡ true) (sym e) (is_same_name-refl shared_name) in
-                let bad : not true ≡ true = subst (λ (b : Bool). not b ≡ true) t p.0 in cc,
-            λ c. let t : is_listed f.0 h.taken ≡ true = listed_from f.0 h.taken c in let bad : not true ≡ true = subst (λ (b : Bool). not b ≡ true) t p.1 in cc,
-          ),
-        )
-    | inr none ↦ inl (inr (λ n c ne. elim (and_cases (not (is_same_name n shared_name)) (not (is_listed n h.taken)) (none n c)) [
-      | inl same ↦ absurd (ne (tested_same n shared_name (not-false (is_same_name n shared_name) same)))
-      | inr there ↦ contains_listed n h.taken (not-false (is_listed n h.taken) there)
-    ]))
-  ]
-]
+module _ (h : Cycle) where
+  abbrev is_left : Name → Bool
+  is_left n = not (is_same_name n shared_name) && not (is_listed n h.taken)
 
-against : (h : Cycle) → ((h.debts ≡ []) × IsAllTaken h) ⊎ ((y : Why) × IsAgainst h y)
-against h = elim (least h.debts) [
-  | inl e ↦ elim (untaken_cases h) [ inl t ↦ inl (e, t) | inr u ↦ inr (why.Untaken u.0, inr (u.0, refl, u.1)) ]
-  | inr p ↦ inr (why.Due p.0, inl (p.0, refl, p.1, p.2))
-]
+  left_untaken : h.taken ≢ [] → (n : Name) → Contains h.remembered n → is_left n ≡ true → IsUntakenName h n
+  left_untaken some n c t =
+      let p : (not (is_same_name n shared_name) ≡ true) × (not (is_listed n h.taken) ≡ true) =
+      and_parts (not (is_same_name n shared_name)) (not (is_listed n h.taken)) t in (
+        some,
+        c,
+        λ e. not_both (is_same_name n shared_name) (subst (λ (x : Name). is_same_name x shared_name ≡ true) (sym e) (is_same_name-refl shared_name)) p.0,
+        λ k. not_both (is_listed n h.taken) (listed_from n h.taken k) p.1,
+      )
+
+  untaken_left : (n : Name) → IsUntakenName h n → is_left n ≡ true
+  untaken_left n u = and_from (not (is_same_name n shared_name)) (not (is_listed n h.taken)) (not_so (is_same_name n shared_name) (λ t.
+      u.2 (tested_same n shared_name t))) (not_so (is_listed n h.taken) (λ t. u.3 (contains_listed n h.taken t)))
+
+  untaken_cases : IsAllTaken h ⊎ ((name : Name) × IsFirstName (IsUntakenName h) name)
+  untaken_cases = elim (empty_cases h.taken) [
+    | inl e ↦ inl (inl e)
+    | inr some ↦ elim (least IsBefore before_cases before_trans not_before_itself is_left h.remembered) [
+      | inl f ↦ inr (
+        f.0,
+        (
+          left_untaken some f.0 f.1.0.0 f.1.0.1,
+          λ other u. f.1.1 other (u.1, untaken_left other u),
+        ),
+      )
+      | inr none ↦ inl (inr (λ n c ne. elim (and_cases (not (is_same_name n shared_name)) (not (is_listed n h.taken)) (none n c)) [
+        | inl same ↦ absurd (ne (tested_same n shared_name (not-false (is_same_name n shared_name) same)))
+        | inr there ↦ contains_listed n h.taken (not-false (is_listed n h.taken) there)
+      ]))
+    ]
+  ]
+
+  against : ((h.debts ≡ []) × IsAllTaken h) ⊎ ((y : Why) × IsAgainst h y)
+  against = elim (earliest h.debts) [
+    | inl e ↦ elim untaken_cases [ inl t ↦ inl (e, t) | inr u ↦ inr (why.Untaken u.0, inr (e, (u.0, refl, u.1))) ]
+    | inr p ↦ inr (why.Due p.0, inl (p.0, refl, p.1))
+  ]
 
 -- the names that the commands opened, with the keys of the weak pointers that live on if these die
 module _ (h : Cycle) (dead : List Name) where
@@ -371,7 +371,7 @@ module _ (h : Cycle) (is : IsWorld h.snapshot) where
   needed dead = kept_listed h.snapshot is (with_keys h dead).0 h.finalised
 
   abbrev left_of : World → List Name → CycleResult
-  left_of w dead = record { world = w; kept = kept; needed = (needed dead).0; old = map (λ (own : MutatorState). length own.nodes) h.snapshot.mutators; dues = 0 }
+  left_of w dead = record { world = w; kept = kept; needed = (needed dead).0; old = map (λ (own : MutatorState). length own.nodes) h.snapshot.mutators }
 
   ends : h.debts ≡ [] → IsAllTaken h → (left : CycleResult) × IsLeft h left
   ends none taken =
@@ -403,30 +403,31 @@ module _ (h : Cycle) (is : IsWorld h.snapshot) where
         },
       )
 
--- all mutators are scanned, or some mutator isn't
-scanned_below : (h : Hybrid) (n : ℕ) → ((k : ℕ) → k < n → is_scanned h k ≡ true) ⊎ ((k : ℕ) × (k < n) × (is_scanned h k ≡ false))
+-- all mutators are scanned, or the first that isn't
+scanned_below : (h : Hybrid) (n : ℕ) → ((k : ℕ) → k < n → is_scanned h k ≡ true) ⊎
+    ((k : ℕ) × (k < n) × (is_scanned h k ≡ false) × ((j : ℕ) → j < k → is_scanned h j ≡ true))
 scanned_below h zero = inl (λ k lt. absurd (let l : k < 0 = lt in omega arith))
 scanned_below h (suc n) = elim (scanned_below h n) [
-  | inr p ↦ inr (p.0, (let l : p.0 < n = p.1 in omega arith), p.2)
+  | inr p ↦ inr (p.0, (let l : p.0 < n = p.1 in omega arith), p.2, p.3)
   | inl all ↦ elim (cases_Bool (is_scanned h n)) [
     | inl t ↦ inl (λ k lt. elim (cases_eq k n) [
       | inl e ↦ subst (λ (j : ℕ). is_scanned h j ≡ true) (sym e) t
       | inr ne ↦ all k (let l : k < suc n = lt in omega (arith, ne))
     ])
-    | inr f ↦ inr (n, omega arith, f)
+    | inr f ↦ inr (n, omega arith, f, all)
   ]
 ]
 
-scanned_cases : (h : Hybrid) → AreScanned h ⊎ ((k : ℕ) × (k < length h.watch.world.mutators) × (is_scanned h k ≡ false))
-scanned_cases h = scanned_below h (length h.watch.world.mutators)
+scanned_cases : (h : Hybrid) → AreScanned h ⊎ ((k : ℕ) × IsFirstUnscanned h k)
+scanned_cases h = elim (scanned_below h (length h.watch.world.mutators)) [ inl all ↦ inl all | inr p ↦ inr (p.0, (p.1, p.2, p.3)) ]
 
 close : (line : ℕ) (p : Watch) → AreClosed p → Judged line p event.Close
 close line (watch.Between w) is = inr (why.Misplaced, refl)
 close line (watch.Marking h) is = elim (scanned_cases h) [
-  | inr u ↦ inr (why.Unscanned u.0, inl (u.0, refl, u.1, u.2))
+  | inr u ↦ inr (why.Unscanned u.0, inl (u.0, refl, u.1))
   | inl all ↦ elim (against h.watch) [
     | inl p ↦ let e : (left : CycleResult) × IsLeft h.watch left = ends h.watch is.1 p.0 p.1 in inl (watch.Ended e.0, (e.0, e.1, refl, all))
-    | inr r ↦ inr (r.0, inr r.1)
+    | inr r ↦ inr (r.0, inr (all, r.1))
   ]
 ]
 close line (watch.Ended left) is = inr (why.Misplaced, refl)
@@ -438,14 +439,15 @@ with_deaths : (h : Cycle) → IsWorld h.snapshot → (named : List Name) → h.d
 with_deaths h is named none taken =
     let names : (names : List Name) × IsOpenedWith h named names = with_keys h named in
     let d : Decided (IsDead h.snapshot names.0 h.finalised) = dead_decided h.snapshot is names.0 h.finalised in
-    elim (search (λ n. not (d.test n)) named) [
+    elim (first_in (λ n. not (d.test n)) named) [
       | inl f ↦ inr (
         why.NotDead f.0,
         (
           f.0,
           refl,
-          f.1,
-          λ dead. let bad : not true ≡ true = subst (λ (b : Bool). not b ≡ true) (d.no f.0 ((dead_named h named names.0 names.1 f.0).1 dead)) f.2 in cc,
+          stands_by (λ n. not (d.test n) ≡ true) (λ n. IsDeadAmong h named n → ⊥) named f.0
+              (λ n t dead. not_both (d.test n) (d.no n ((dead_named h named names.0 names.1 n).1 dead)) t)
+              (λ n never. not_so (d.test n) (λ t. never ((dead_named h named names.0 names.1 n).0 (d.yes n t)))) f.1,
         ),
       )
       | inr all ↦ inl (ends_known h is none taken named (λ n c. (dead_named h named names.0 names.1 n).0 (d.yes n (not-false (d.test n) (all n c)))))
@@ -454,22 +456,27 @@ with_deaths h is named none taken =
 close_with : (line : ℕ) (named : List Name) (p : Watch) → AreClosed p → Judged line p (event.CloseWith named)
 close_with line named (watch.Between w) is = inr (why.Misplaced, refl)
 close_with line named (watch.Marking h) is = elim (scanned_cases h) [
-  | inr u ↦ inr (why.Unscanned u.0, inl (u.0, refl, u.1, u.2))
+  | inr u ↦ inr (why.Unscanned u.0, inl (u.0, refl, u.1))
   | inl all ↦ elim (against h.watch) [
     | inl p ↦ elim (with_deaths h.watch is.1 named p.0 p.1) [
       | inl e ↦ inl (watch.Ended e.0, (e.0, e.1, refl, all))
-      | inr d ↦ inr (d.0, inr (inr d.1))
+      | inr d ↦ inr (d.0, inr (all, inr (p.0, p.1, d.1)))
     ]
-    | inr r ↦ inr (r.0, inr (inl r.1))
+    | inr r ↦ inr (r.0, inr (all, inl r.1))
   ]
 ]
 close_with line named (watch.Ended left) is = inr (why.Misplaced, refl)
 close_with line named watch.Stopped is = inr (why.Misplaced, refl)
 
 -- the names that the runtime marked, and the names that it freed
-missing : (names others : List Name) → ((n : Name) × Contains others n × (Contains names n → ⊥)) ⊎ ((n : Name) → Contains others n → Contains names n)
-missing names others = elim (search (λ n. not (is_listed n names)) others) [
-  | inl f ↦ inl (f.0, f.1, λ c. let bad : not true ≡ true = subst (λ (b : Bool). not b ≡ true) (listed_from f.0 names c) f.2 in cc)
+missing : (names others : List Name) → ((n : Name) × StandsFirst others (λ other. Contains names other → ⊥) n) ⊎
+    ((n : Name) → Contains others n → Contains names n)
+missing names others = elim (first_in (λ n. not (is_listed n names)) others) [
+  | inl f ↦ inl (
+    f.0,
+    stands_by (λ n. not (is_listed n names) ≡ true) (λ n. Contains names n → ⊥) others f.0
+        (λ n t c. not_both (is_listed n names) (listed_from n names c) t) (λ n never. not_so (is_listed n names) (λ t. never (contains_listed n names t))) f.1,
+  )
   | inr none ↦ inr (λ n c. contains_listed n names (not-false (is_listed n names) (none n c)))
 ]
 
@@ -477,9 +484,9 @@ marked : (line : ℕ) (names : List Name) (p : Watch) → Judged line p (event.M
 marked line names (watch.Between w) = inr (why.Misplaced, refl)
 marked line names (watch.Marking h) = inr (why.Misplaced, refl)
 marked line names (watch.Ended left) = elim (missing names left.kept) [
-  | inl f ↦ inr (why.NotListed f.0, inl (f.0, refl, (f.1, f.2)))
+  | inl f ↦ inr (why.NotListed f.0, inl (f.0, refl, f.1))
   | inr all ↦ elim (missing left.kept names) [
-    | inl f ↦ inr (why.NotMarked f.0, inr (f.0, refl, (f.1, f.2)))
+    | inl f ↦ inr (why.NotMarked f.0, inr (all, (f.0, refl, f.1)))
     | inr each ↦ inl (watch.Ended left, (λ n. (λ c. each n c, λ c. all n c), refl))
   ]
 ]
@@ -489,22 +496,23 @@ may_free : (left : CycleResult) (n : Name) → MayFree left n ⊎ ((y : Why) × 
 may_free left n = elim (cases_Bool (is_some (node_of left.world n))) [
   | inl there ↦ elim (cases_Bool (is_old left.old n)) [
     | inl old ↦ elim (cases_Bool (is_listed n left.needed)) [
-      | inl t ↦ inr (why.Needed n, inr (inr (refl, contains_listed n left.needed t)))
+      | inl t ↦ inr (why.Needed n, inr (there, inr (refl, old, contains_listed n left.needed t)))
       | inr f ↦ inl (there, old, not_listed n left.needed f)
     ]
-    | inr new ↦ inr (why.NotOld n, inr (inl (refl, λ old. false≢true (sym new ∙ old))))
+    | inr new ↦ inr (why.NotOld n, inr (there, inl (refl, λ old. false≢true (sym new ∙ old))))
   ]
   | inr gone ↦ inr (why.NoSuchName n, inl (refl, λ there. let t : is_some (node_of left.world n) ≡ true = there in false≢true (sym gone ∙ t)))
 ]
 
-all_free : (left : CycleResult) (names : List Name) → ((n : Name) → Contains names n → MayFree left n) ⊎ ((y : Why) × (n : Name) × Contains names n × WhyKept left n y)
+all_free : (left : CycleResult) (names : List Name) → ((n : Name) → Contains names n → MayFree left n) ⊎
+    ((y : Why) × (n : Name) × StandsFirst names (λ other. MayFree left other → ⊥) n × WhyKept left n y)
 all_free left [] = inl (λ n c. absurd (nothing_in n c))
 all_free left (x ∷ xs) = elim (may_free left x) [
   | inl a ↦ elim (all_free left xs) [
     | inl all ↦ inl (λ n c. elim (contains_cases x xs n c) [ inl same ↦ subst (MayFree left) same a | inr d ↦ all n d ])
-    | inr r ↦ inr (r.0, r.1, contains_tail x xs r.1 r.2, r.3)
+    | inr r ↦ inr (r.0, r.1, stands_tail (λ other. MayFree left other → ⊥) x xs r.1 (λ never. never a) r.2, r.3)
   ]
-  | inr r ↦ inr (r.0, x, contains_head x xs, r.1)
+  | inr r ↦ inr (r.0, x, stands_head (λ other. MayFree left other → ⊥) x xs (no_freed_name left x r.0 r.1), r.1)
 ]
 
 freed : (line : ℕ) (names : List Name) (p : Watch) → Judged line p (event.Freed names)

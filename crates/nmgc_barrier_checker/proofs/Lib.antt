@@ -1,10 +1,12 @@
 pub mod AccountLaws
 pub mod Broken
 pub mod ClosingLaws
+pub mod Counting
 pub mod CycleLaws
 pub mod Deciding
 pub mod DueLaws
 pub mod Filters
+pub mod Firsts
 pub mod Handed
 pub mod Judging
 pub mod ListedLaws

@@ -1,5 +1,7 @@
 -- The position of a name in an ordered list, and the names of such a list that are met.
-use Rattle.nmgc_barrier_checker.proofs.Vocabulary.{◌≡◌, ◌<◌, ◌≤◌, ◌+◌, ℕ, zero, suc, List, [], ◌∷◌, ◌++◌, length, get_or, set, inl, inr, sym, ap, subst, ◌∙◌, arith, Bool, true, false, Contains, cases_lt, eqb_tells, get_or_default, get_or-set_same, get_or-set_other, Contains-append_left, Contains-append_right, Contains-append_cases, Name, IsBefore, IsInOrder, before_trans, not_before_itself, in_order_first, in_order_rest, one_is, contains_one, StandsAt, IsBetween, IsPlaceOf, AreMet, length-set}
+use Rattle.nmgc_barrier_checker.proofs.Vocabulary.{◌≡◌, ◌<◌, ◌≤◌, ◌+◌, ℕ, zero, suc, List, [], ◌∷◌, ◌++◌, length, take, get_or, set, inl, inr, refl, false≢true, sym, ap, subst, ◌∙◌, arith, Bool, true, false, Contains, cases_lt, eqb_tells, get_or_default, get_or-set_same, get_or-set_other, Contains-append_left, Contains-append_right, Contains-append_cases, Name, IsBefore, IsInOrder, before_trans, not_before_itself, in_order_first, in_order_rest, one_is, contains_one, StandsAt, IsBetween, IsPlaceOf, AreMet, length-set, nothing_in, contains_cases}
+use Rattle.nmgc_barrier_checker.specs.First.{StandsFirst}
+use Rattle.nmgc_barrier_checker.proofs.Firsts.{stands_at}
 
 -- the earlier of two positions has the earlier name
 order_at : (xs : List Name) (i j : ℕ) (a b : Name) → IsInOrder xs → i < j → StandsAt xs i a → StandsAt xs j b → IsBefore a b
@@ -120,3 +122,21 @@ module _ (xs others : List Name) (met : List Bool) (h : AreMet xs others met) (o
 -- the names before a position are all met
 abbrev pub MetBefore : List Bool → ℕ → Type 0
 MetBefore met place = (i : ℕ) → i < place → get_or met i false ≡ true
+
+-- the first name that isn't met
+taken_at : (xs : List Name) (i : ℕ) (n : Name) → Contains (take i xs) n → (j : ℕ) × (j < i) × StandsAt xs j n
+taken_at [] zero n c = absurd (nothing_in n c)
+taken_at [] (suc i) n c = absurd (nothing_in n c)
+taken_at (x ∷ xs) zero n c = absurd (nothing_in n c)
+taken_at (x ∷ xs) (suc i) n c = elim (contains_cases x (take i xs) n c) [
+  | inl e ↦ (0, omega arith, (omega arith, e))
+  | inr d ↦ let p = taken_at xs i n d in (suc p.0, (let lt = p.1 in omega (arith, lt)), ((let lt = p.2.0 in omega (arith, lt)), p.2.1))
+]
+
+pub left_first : (xs others : List Name) (met : List Bool) (i : ℕ) (d : Name) (b : Bool) → AreMet xs others met → MetBefore met i → i < length xs →
+    get_or met i b ≡ false → StandsFirst xs (λ n. Contains others n → ⊥) (get_or xs i d)
+left_first xs others met i d b h before lt fresh =
+    let same : get_or met i false ≡ get_or met i b = get_or_default met i false b (let k = h.places in omega (arith, lt, k)) in
+    stands_at (λ n. Contains others n → ⊥) xs i d lt
+    (λ n c never. let p = taken_at xs i n c in never ((h.same p.0 n p.2).0 (before p.0 p.1)))
+    (λ c. false≢true (sym (same ∙ fresh) ∙ (h.same i (get_or xs i d) (lt, get_or_default xs i (get_or xs i d) d lt)).1 c))

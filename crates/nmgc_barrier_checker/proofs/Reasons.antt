@@ -1,11 +1,11 @@
 -- An event with a reason can't happen.
-use Rattle.nmgc_barrier_checker.proofs.Vocabulary.{◌≡◌, ℕ, List, [], sym, subst, ◌∙◌, inl, inr, Contains, Name, Command, Reply, World, CanApply, step, Lists, nothing_in, Debt, Cycle, MarksName, IsAllTaken, barrier_theorem, Why, CycleResult, Watch, IsWhyNot, WhyGive, CanGive, WhyMark, CanMark, WhyPush, CanPush, WhySettle, CanSettle, WhyTake, CanTake, WhyClose, CanClose, WhyCloseWith, CanCloseWith, WhyMarked, CanMarked, WhyFreed, CanFreed, WhyKept, MayFree, IsAgainst, WhyStop, CanStop, ReasonsRefuse, ClosedIsExact, WhyScan, CanScan, CanMarkShared, IsNotScanned, Hybrid, AreScanned, IsScanned, true, false}
+use Rattle.nmgc_barrier_checker.proofs.Vocabulary.{◌≡◌, ℕ, List, [], sym, subst, ◌∙◌, inl, inr, Contains, Name, Command, Reply, World, CanApply, step, Lists, nothing_in, Debt, Cycle, MarksName, IsAllTaken, IsDeadAmong, barrier_theorem, Why, CycleResult, Watch, IsWhyNot, WhyGive, CanGive, WhyMark, CanMark, WhyPush, CanPush, WhySettle, CanSettle, WhyTake, CanTake, WhyClose, CanClose, WhyCloseWith, CanCloseWith, WhyMarked, CanMarked, WhyFreed, CanFreed, WhyKept, MayFree, IsAgainst, WhyStop, CanStop, ReasonsRefuse, ClosedIsExact, WhyScan, CanScan, CanMarkShared, IsNotScanned, Hybrid, AreScanned, IsScanned, true, false}
 use Rattle.nmgc_barrier_checker.specs.declared.event.Event.TheVariants as event
 use Rattle.nmgc_barrier_checker.specs.declared.event.Why.TheVariants as why
 use Rattle.nmgc_barrier_checker.specs.declared.watch.Watch.TheVariants as watch
 use Rattle.nmgc_barrier_laws.specs.laws.HybridBeside.{hybrid_joint}
-use Rattle.nmgc_barrier_checker.specs.Watching.{IsUnscanned, ClosedLaterIsExact}
-use Rattle.nmgc_barrier_checker.proofs.RowLaws.{no_rows}
+use Rattle.nmgc_barrier_checker.specs.Watching.{IsAgainstWith, IsUnscanned, ClosedLaterIsExact}
+use Rattle.nmgc_barrier_checker.proofs.{Firsts.stands_in, RowLaws.no_rows}
 
 no_command : (w : World) (m : ℕ) (c : Command) (answer : Reply) (y : Why) → IsWhyNot w m c answer y → CanApply w m c → (step w m c).1 ≡ answer → ⊥
 no_command w m c answer why.CannotApply h can says = h can
@@ -58,23 +58,23 @@ no_push name watch.Stopped y next h g = g
 
 no_settle : (m : ℕ) (p : Watch) (y : Why) (next : Watch) → WhySettle m p y → CanSettle m p next → ⊥
 no_settle m (watch.Between w) y next h g = g
-no_settle m (watch.Marking k) y next (inl h) g = g.0.1 h.0 h.2 h.3
+no_settle m (watch.Marking k) y next (inl h) g = g.0.1 h.0 h.2.0.0 h.2.0.1
 no_settle m (watch.Marking k) y next (inr h) g = h.1 g.0.0
 no_settle m (watch.Ended left) y next h g = g
 no_settle m watch.Stopped y next h g = g
 
 no_end : (k : Cycle) (y : Why) → IsAgainst k y → k.debts ≡ [] → IsAllTaken k → ⊥
-no_end k y (inl h) none all = nothing_in h.0 (subst (λ (l : List Debt). Contains l h.0) none h.2)
-no_end k y (inr h) none (inl e) = h.2.0 e
-no_end k y (inr h) none (inr t) = h.2.3 (t h.0 h.2.1 h.2.2)
+no_end k y (inl h) none all = nothing_in h.0 (subst (λ (l : List Debt). Contains l h.0) none h.2.0)
+no_end k y (inr h) none (inl e) = h.1.2.0.0 e
+no_end k y (inr h) none (inr t) = h.1.2.0.3 (t h.1.0 h.1.2.0.1 h.1.2.0.2)
 
 not_all : (k : Hybrid) (y : Why) → IsUnscanned k y → AreScanned k → ⊥
-not_all k y u all = let bad : true ≡ false = sym (all u.0 u.2) ∙ u.3 in cc
+not_all k y u all = let bad : true ≡ false = sym (all u.0 u.2.0) ∙ u.2.1 in cc
 
 no_close : (p : Watch) (y : Why) (next : Watch) → WhyClose p y → CanClose p next → ⊥
 no_close (watch.Between w) y next h g = g
 no_close (watch.Marking k) y next (inl h) g = not_all k y h g.3
-no_close (watch.Marking k) y next (inr h) g = no_end k.watch y h g.1.ends.debts g.1.ends.taken
+no_close (watch.Marking k) y next (inr h) g = no_end k.watch y h.1 g.1.ends.debts g.1.ends.taken
 no_close (watch.Ended left) y next h g = g
 no_close watch.Stopped y next h g = g
 
@@ -84,30 +84,36 @@ no_take name (watch.Marking k) y next h g = h.1 g.1.pushed
 no_take name (watch.Ended left) y next h g = g
 no_take name watch.Stopped y next h g = g
 
+no_end_with : (k : Cycle) (named : List Name) (y : Why) → IsAgainstWith k named y → k.debts ≡ [] → IsAllTaken k →
+    ((weak : Name) → Contains named weak → IsDeadAmong k named weak) → ⊥
+no_end_with k named y (inl h) none all may = no_end k y h none all
+no_end_with k named y (inr h) none all may =
+    h.2.2.3 (may h.2.0 (stands_in (λ other. IsDeadAmong k named other → ⊥) named h.2.0 h.2.2))
+
 no_close_with : (named : List Name) (p : Watch) (y : Why) (next : Watch) → WhyCloseWith named p y → CanCloseWith named p next → ⊥
 no_close_with named (watch.Between w) y next h g = g
 no_close_with named (watch.Marking k) y next (inl h) g = not_all k y h g.3
-no_close_with named (watch.Marking k) y next (inr (inl h)) g = no_end k.watch y h g.1.ends.debts g.1.ends.taken
-no_close_with named (watch.Marking k) y next (inr (inr h)) g = h.3 (g.1.ends.may h.0 h.2)
+no_close_with named (watch.Marking k) y next (inr h) g = no_end_with k.watch named y h.1 g.1.ends.debts g.1.ends.taken g.1.ends.may
 no_close_with named (watch.Ended left) y next h g = g
 no_close_with named watch.Stopped y next h g = g
 
 no_marked : (names : List Name) (p : Watch) (y : Why) (next : Watch) → WhyMarked names p y → CanMarked names p next → ⊥
 no_marked names (watch.Between w) y next h g = g
 no_marked names (watch.Marking k) y next h g = g
-no_marked names (watch.Ended left) y next (inl h) g = h.2.1 ((g.0 h.0).1 h.2.0)
-no_marked names (watch.Ended left) y next (inr h) g = h.2.1 ((g.0 h.0).0 h.2.0)
+no_marked names (watch.Ended left) y next (inl h) g =
+    h.2.3 ((g.0 h.0).1 (stands_in (λ other. Contains names other → ⊥) left.kept h.0 h.2))
+no_marked names (watch.Ended left) y next (inr h) g =
+    h.1.2.3 ((g.0 h.1.0).0 (stands_in (λ other. Contains left.kept other → ⊥) names h.1.0 h.1.2))
 no_marked names watch.Stopped y next h g = g
 
-no_freed_name : (left : CycleResult) (name : Name) (y : Why) → WhyKept left name y → MayFree left name → ⊥
+pub no_freed_name : (left : CycleResult) (name : Name) (y : Why) → WhyKept left name y → MayFree left name → ⊥
 no_freed_name left name y (inl h) may = h.1 may.0
-no_freed_name left name y (inr (inl h)) may = h.1 may.1
-no_freed_name left name y (inr (inr h)) may = may.2 h.1
+no_freed_name left name y (inr h) may = elim h.1 [ inl old ↦ old.1 may.1 | inr need ↦ may.2 need.2 ]
 
 no_freed : (names : List Name) (p : Watch) (y : Why) (next : Watch) → WhyFreed names p y → CanFreed names p next → ⊥
 no_freed names (watch.Between w) y next h g = g
 no_freed names (watch.Marking k) y next h g = g
-no_freed names (watch.Ended left) y next h g = no_freed_name left h.0 y h.2 (g.0 h.0 h.1)
+no_freed names (watch.Ended left) y next h g = no_freed_name left h.0 y h.2 (g.0 h.0 (stands_in (λ other. MayFree left other → ⊥) names h.0 h.1))
 no_freed names watch.Stopped y next h g = g
 
 no_stop : (p : Watch) (y : Why) (next : Watch) → WhyStop p y → CanStop p next → ⊥

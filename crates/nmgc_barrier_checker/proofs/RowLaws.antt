@@ -1,5 +1,11 @@
 -- Several commands of one line: the effect of the first of them, and the command that stops them.
 use Rattle.nmgc_barrier_checker.proofs.Vocabulary.{◌≡◌, ◌<◌, ◌+◌, ℕ, List, [], ◌∷◌, ◌++◌, zero, suc, length, take, drop, get_or, refl, sym, ap, subst, ◌∙◌, arith, append_assoc, Option, Some, None, true, false, inl, inr, ◌⊎◌, is_some, Command, World, CanApply, step, Why, Copying, Filling, Watch, IsNotDone, is_done, load_of, store_of, write_of, copied, filled, CanAct, WhyNoAct, IsAct, AreDone, StopsAt, AreActed, is_stopped, mutators_of, CanRows, IsAbsent, IsWhy, IsStep, Hybrid}
+use Rattle.std.proofs.Common.{Result, Ok, Err}
+use Rattle.nmgc_barrier_checker.proofs.Firsts.{split_at}
+use Rattle.std.specs.Prelude.{IfOk}
+use Rattle.nmgc_lists.specs.declared.memory.NoMemory.{NoMemory}
+use Rattle.nmgc_barrier_checker.specs.CameDue.{AddsDues, AddsDuesIf, AreCounted, CountsDues, CountsDuesIf}
+use Rattle.nmgc_barrier_checker.specs.declared.event.Event.{Event}
 use Rattle.nmgc_barrier_checker.specs.declared.event.Event.TheVariants as event
 use Rattle.nmgc_barrier_checker.specs.declared.event.Why.TheVariants as why
 use Rattle.nmgc_barrier_checker.specs.declared.watch.Watch.TheVariants as watch
@@ -20,20 +26,54 @@ filled_more filling turn a b x e f g =
     let on : turn + 1 ≡ suc turn = omega arith in
     f ∙ (ap (λ (l : List Command). l ++ x ∷ []) e ∙ (ap (λ (z : Command). filled filling turn ++ z ∷ []) g ∙ sym (ap (filled filling) on)))
 
--- a list split at a position
-split_at : {A : Type 0} (xs : List A) (i : ℕ) (d : A) → i < length xs → xs ≡ take i xs ++ get_or xs i d ∷ drop (i + 1) xs
-split_at [] i d lt = absurd (let l : i < 0 = lt in omega arith)
-split_at (x ∷ xs) zero d lt = refl
-split_at (x ∷ xs) (suc i) d lt =
-    let l : suc i < suc (length xs) = lt in
-    let on : suc i + 1 ≡ suc (i + 1) = omega arith in
-    ap (λ (l : List _). x ∷ l) (split_at xs i d (omega arith)) ∙ sym (ap (λ (n : ℕ). x ∷ (take i xs ++ get_or xs i d ∷ drop n (x ∷ xs))) on)
-
 -- one more command was done
 pub done_more : (line m : ℕ) (xs : List Command) (c : Command) (p between next : Watch) → AreDone line m xs p between →
     CanAct line m c between next → AreDone line m (xs ++ c ∷ []) p next
 done_more line m [] c p between next d a = (next, subst (λ (q : Watch). CanAct line m c q next) d a, refl)
 done_more line m (x ∷ xs) c p between next d a = (d.0, d.1, done_more line m xs c d.0 between next d.2 a)
+
+-- one more command was counted
+pub counted_more : (line m : ℕ) (xs : List Command) (c : Command) (p between next : Watch) (before count after : ℕ) →
+    AreCounted line m xs p before between count → CanAct line m c between next → AddsDues between m c count after →
+    AreCounted line m (xs ++ c ∷ []) p before next after
+counted_more line m [] c p between next before count after d a n = (
+  next,
+  after,
+  subst (λ (q : Watch). CanAct line m c q next) d.0 a,
+  subst (λ (q : Watch). AddsDues q m c before after) d.0 (subst (λ (k : ℕ). AddsDues between m c k after) d.1 n),
+  (refl, refl),
+)
+counted_more line m (x ∷ xs) c p between next before count after d a n =
+    (d.0, d.1, d.2, d.3, counted_more line m xs c d.0 between next d.1 count after d.4 a n)
+
+pub adds_go : (m : ℕ) (c : Command) (p : Watch) (o : Option Why) (before after : ℕ) → is_some o ≡ false → AddsDuesIf p m c o before after →
+    AddsDues p m c before after
+adds_go m c p None before after e a = a
+adds_go m c p (Some y) before after e a = absurd cc
+
+-- nothing is counted of a line that was refused, or that makes no name due
+pub counts_none : (line : ℕ) (p : Watch) (e : Event) (o : Option Why) (before after : ℕ) → is_some o ≡ true → CountsDuesIf line p e o before after
+counts_none line p e None before after bad = absurd cc
+counts_none line p e (Some y) before after bad = tt
+
+pub counts_if : (line : ℕ) (p : Watch) (e : Event) (o : Option Why) (before after : ℕ) → CountsDues line p e before after →
+    CountsDuesIf line p e o before after
+counts_if line p e None before after h = h
+counts_if line p e (Some y) before after h = tt
+
+pub counts_same : (r : Result (Option Why) NoMemory) (line : ℕ) (p : Watch) (e : Event) (before after : ℕ) → CountsDues line p e before after →
+    IfOk r (λ o. CountsDuesIf line p e o before after)
+counts_same (Ok o) line p e before after h = counts_if line p e o before after h
+counts_same (Err f) line p e before after h = tt
+
+pub adds_if : (p : Watch) (m : ℕ) (c : Command) (o : Option Why) (before after : ℕ) → AddsDues p m c before after → AddsDuesIf p m c o before after
+adds_if p m c None before after h = h
+adds_if p m c (Some y) before after h = tt
+
+pub adds_same : (r : Result (Option Why) NoMemory) (p : Watch) (m : ℕ) (c : Command) (before after : ℕ) → AddsDues p m c before after →
+    IfOk r (λ o. AddsDuesIf p m c o before after)
+adds_same (Ok o) p m c before after h = adds_if p m c o before after h
+adds_same (Err f) p m c before after h = tt
 
 -- one command was tried
 pub acted_go : (line m : ℕ) (c : Command) (p next : Watch) (o : Option Why) → is_some o ≡ false → IsAct line m c p o next → CanAct line m c p next

@@ -56,7 +56,7 @@ module _ (h : Hybrid) (old : Cycle) (flags : List Bool) (e : record { watch = ol
 -- an end of the cycle, if all mutators are scanned
 ending_of : (h : Hybrid) (r : Result CycleResult Why) → AreScanned h → IsEnding h.watch r → IsEndingIn h r
 ending_of h (Ok left) all e = (all, e)
-ending_of h (Err y) all e = inr e
+ending_of h (Err y) all e = inr (all, e)
 
 pub ending_in : (h : Hybrid) (r : Result (Result CycleResult Why) NoMemory) → AreScanned h → IfOk r (IsEnding h.watch) → IfOk r (IsEndingIn h)
 ending_in h (Ok r) all e = ending_of h r all e
@@ -64,7 +64,7 @@ ending_in h (Err f) all e = tt
 
 ending_with_of : (h : Hybrid) (named : List Name) (r : Result CycleResult Why) → AreScanned h → IsEndingWith h.watch named r → IsEndingWithIn h named r
 ending_with_of h named (Ok left) all e = (all, e)
-ending_with_of h named (Err y) all e = inr e
+ending_with_of h named (Err y) all e = inr (all, e)
 
 pub ending_with_in : (h : Hybrid) (named : List Name) (r : Result (Result CycleResult Why) NoMemory) → AreScanned h →
     IfOk r (IsEndingWith h.watch named) → IfOk r (IsEndingWithIn h named)

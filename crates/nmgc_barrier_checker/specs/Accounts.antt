@@ -1,10 +1,10 @@
 -- The debts of each mutator: a queue of debts, and the set of names that came due by this mutator.
-use Rattle.std.specs.Prelude.{◌≡◌, ◌⊎◌, ◌<◌, ◌≤◌, ℕ, List, [], ◌∷◌, ◌++◌, length, filter, slice_get, slice_set, slice_index_or, Option, Some, None, Bool, false, not, ◌&&◌, IsSome, IfSome, Contains, if◌then◌else◌}
+use Rattle.std.specs.Prelude.{◌≡◌, ◌⊎◌, ◌<◌, ◌≤◌, ℕ, List, [], ◌∷◌, ◌++◌, length, filter, slice_get, slice_set, slice_index_or, Option, Some, None, Bool, false, not, ◌&&◌, IsSome, IfSome, Contains, max, if◌then◌else◌}
 use Rattle.std.specs.List.{flat_map}
 use Rattle.nmgc_world_spec.specs.{declared.value.Name.Name, World.World, World.node_of}
 use Rattle.nmgc_graph.specs.Marks.{HasPlaces, IsMarked, mark_of, with_mark}
 use Rattle.nmgc_barrier_laws.specs.declared.debt.Debt.{Debt}
-use Rattle.nmgc_barrier_checker.specs.declared.accounts.Accounts.{Accounts}
+use Rattle.nmgc_barrier_checker.specs.{declared.accounts.Accounts.Accounts, First.IsEarliest}
 use Rattle.nmgc_snapshot_laws.specs.Machine.{is_pushed_in}
 
 -- whether a debt is unpaid: its name isn't in the set of pushed names
@@ -36,12 +36,14 @@ abbrev pub all_debts : List (List Debt) → List Debt
 all_debts queues = flat_map (λ queue. queue) queues
 
 -- the invariant of the accounts. Each mutator has a queue, and a set with a position for each name of the snapshot. A queue
--- has the mutator's own debts, of names of the snapshot. A name that came due was pushed, or is in the queue
+-- has the mutator's own debts, of names of the snapshot, and none of a line above `newest`. A name that came due was pushed,
+-- or is in the queue
 pub record AreAccounts (marks : List (List Bool)) (snapshot : World) (a : Accounts) : Type 0 where
   pub sets : length a.names ≡ length a.debts
   pub places : (m : ℕ) → m < length a.debts → HasPlaces snapshot (set_of a.names m)
   pub own : (m : ℕ) (debt : Debt) → Contains (queue_of a.debts m) debt → debt.mutator ≡ m
   pub there : (m : ℕ) (debt : Debt) → Contains (queue_of a.debts m) debt → IsSome (node_of snapshot debt.name)
+  pub newest : (m : ℕ) (debt : Debt) → Contains (queue_of a.debts m) debt → debt.line ≤ a.newest
   pub owes : (m : ℕ) (name : Name) → IsMarked (set_of a.names m) name → IsMarked marks name ⊎
       ((debt : Debt) × Contains (queue_of a.debts m) debt × (debt.name ≡ name))
 
@@ -64,6 +66,7 @@ owed_one snapshot marks a debt =
     then (record {
       debts = slice_set a.debts debt.mutator (queue_of a.debts debt.mutator ++ debt ∷ []);
       names = slice_set a.names debt.mutator (with_mark (set_of a.names debt.mutator) debt.name);
+      newest = max a.newest debt.line;
     })
     else a
 
@@ -81,11 +84,12 @@ pub record IsForgotten (marks : List (List Bool)) (m : ℕ) (before after : Acco
   pub queue : List Debt
   pub debts : after.debts ≡ slice_set before.debts m queue
   pub names : after.names ≡ before.names
+  pub newest : after.newest ≡ before.newest
   pub same : unpaid marks queue ≡ unpaid marks (queue_of before.debts m)
   pub fewer : (debt : Debt) → Contains queue debt → Contains (queue_of before.debts m) debt
   pub first : IsPaidUp marks queue
 
--- the debt of the least line, or none if there are no debts
+-- the earliest of debts, or none if there are no debts
 abbrev pub IsLeastIn : List Debt → Option Debt → Type 0
 IsLeastIn debts None = debts ≡ []
-IsLeastIn debts (Some debt) = Contains debts debt × ((other : Debt) → Contains debts other → debt.line ≤ other.line)
+IsLeastIn debts (Some debt) = IsEarliest (Contains debts) debt

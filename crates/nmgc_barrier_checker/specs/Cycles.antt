@@ -3,7 +3,7 @@ use Rattle.std.specs.Prelude.{◌≡◌, ◌≢◌, ℕ, List, [], ◌∷◌, �
 use Rattle.nmgc_world_spec.specs.{declared.value.Name.Name, declared.node.Parts.Parts, declared.command.Command.Command, declared.command.Reply.Reply, World.World, World.node_of, World.is_same_name, World.step, World.shared_name, Known.IsWorld, Known.CanApply, Reach.IsAlive, Reach.names_among}
 use Rattle.nmgc_graph.specs.{Marks.mark_of, Search.parts_of}
 use Rattle.nmgc_barrier_laws.specs.{declared.debt.Debt.Debt, Cycle.Cycle, Cycle.IsPushed, Cycle.IsTook, Cycle.IsAllTaken, Cycle.AreKeysLeft, Hybrid.Hybrid, Hybrid.is_scanned, Hybrid.IsWatchedIn, Hybrid.IsScanned, Hybrid.held_names}
-use Rattle.nmgc_barrier_checker.specs.{declared.accounts.Accounts.Accounts, declared.name_set.NameSet.NameSet, declared.event.Why.Why, Accounts.AreAccounts, Accounts.IsLeastIn, NameSet.IsListed, Rows.is_done}
+use Rattle.nmgc_barrier_checker.specs.{declared.accounts.Accounts.Accounts, declared.name_set.NameSet.NameSet, declared.event.Why.Why, Accounts.AreAccounts, Accounts.IsLeastIn, First.IsEarliest, First.IsFirstName, NameSet.IsListed, Rows.is_done}
 use Rattle.nmgc_barrier_checker.specs.declared.event.Why.TheVariants as why
 
 -- the invariant of a cycle. Pushed, opened and taken names are lists with sets (`IsListed`), and the debts are in accounts. A
@@ -71,7 +71,8 @@ pub record IsRead (m : ℕ) (h next : Cycle) : Type 0 where
 
 -- the reasons why a mutator can't be scanned: there is no such mutator, or it was scanned in this cycle
 abbrev pub IsNotScanned : Hybrid → ℕ → Why → Type 0
-IsNotScanned h m y = ((y ≡ why.CannotApply) × (m < length h.watch.world.mutators → ⊥)) ⊎ ((y ≡ why.Misplaced) × (is_scanned h m ≡ true))
+IsNotScanned h m y = ((y ≡ why.CannotApply) × (m < length h.watch.world.mutators → ⊥)) ⊎
+    ((y ≡ why.Misplaced) × (is_scanned h m ≡ true) × (m < length h.watch.world.mutators))
 
 -- the outcome of a scan: the mutator was scanned, or nothing changed and there is a reason
 abbrev pub IsScan : ℕ → Hybrid → Option Why → Hybrid → Type 0
@@ -87,9 +88,13 @@ IsPush name h (Some w) next = (next ≡ h) × (w ≡ why.NoSuchName name) × (Is
 abbrev pub IsSettled : Cycle → ℕ → Type 0
 IsSettled h m = (m < length h.world.mutators) × ((debt : Debt) → Contains h.debts debt → debt.mutator ≢ m)
 
--- the reasons why a mutator hasn't settled: it has an unpaid debt, or there is no such mutator
+-- a debt of the mutator in the cycle
+abbrev pub IsOwn : Cycle → ℕ → Debt → Type 0
+IsOwn h m debt = Contains h.debts debt × (debt.mutator ≡ m)
+
+-- the reasons why a mutator hasn't settled: the earliest of its debts, or there is no such mutator
 abbrev pub IsUnsettled : Cycle → ℕ → Why → Type 0
-IsUnsettled h m y = ((debt : Debt) × (y ≡ why.Due debt) × Contains h.debts debt × (debt.mutator ≡ m)) ⊎
+IsUnsettled h m y = ((debt : Debt) × (y ≡ why.Due debt) × IsEarliest (IsOwn h m) debt × (m < length h.world.mutators)) ⊎
     ((y ≡ why.CannotApply) × (m < length h.world.mutators → ⊥))
 
 -- the outcome of a settle: the mutator has settled, or there is a reason why it hasn't
@@ -102,7 +107,7 @@ abbrev pub IsTake : Name → Cycle → Option Why → Cycle → Type 0
 IsTake name h None next = IsTook h name next
 IsTake name h (Some w) next = (next ≡ h) × (w ≡ why.NotPushed name) × (Contains h.remembered name → ⊥)
 
--- the cycle's debt of the least line, or none if there are no debts
+-- the cycle's earliest debt, or none if there are no debts
 abbrev pub IsLeastDebt : Cycle → Option Debt → Type 0
 IsLeastDebt h debt = IsLeastIn h.debts debt
 
@@ -114,15 +119,15 @@ IsUntakenName h name = (h.taken ≢ []) × Contains h.remembered name × (name �
 abbrev pub is_untaken : NameSet → Name → Bool
 is_untaken taken name = not (is_same_name name shared_name) && not (mark_of taken.set name)
 
--- the outcome of a search among names for a name that still has to be taken
+-- the outcome of a search among names for the first name that still has to be taken
 abbrev pub IsUntakenIn : NameSet → List Name → Option Name → Type 0
 IsUntakenIn taken names None = (name : Name) → Contains names name → is_untaken taken name ≡ false
-IsUntakenIn taken names (Some name) = Contains names name × (is_untaken taken name ≡ true)
+IsUntakenIn taken names (Some name) = IsFirstName (λ n. Contains names n × (is_untaken taken n ≡ true)) name
 
--- the outcome of a search for a name that was pushed and isn't reported as taken, although takes are reported
+-- the outcome of a search for the first name that was pushed and isn't reported as taken, although takes are reported
 abbrev pub IsUntakenIf : Cycle → Option Name → Type 0
 IsUntakenIf h None = IsAllTaken h
-IsUntakenIf h (Some name) = IsUntakenName h name
+IsUntakenIf h (Some name) = IsFirstName (IsUntakenName h) name
 
 -- whether a name is in neither set
 abbrev pub is_outside : List (List Bool) → List (List Bool) → Name → Bool

@@ -1,6 +1,7 @@
 -- How a command's due names are found: by fields that snapshot and world share at positions that the command may change. For
 -- a mutator that isn't scanned, also by the field that the command may write and the object that it may make.
 use Rattle.std.specs.Prelude.{◌≡◌, ◌+◌, ◌-◌, ◌<◌, ◌≤◌, ℕ, List, [], ◌∷◌, length, map, flat_map, Option, Some, None, Bool, true, false, Contains, ◌++◌, filter, option_to_list, if◌then◌else◌}
+use Rattle.std.specs.{List.Sorted.IsSortedByKey, Ordering.ordering_then, Ordering.nat_cmp}
 use Rattle.nmgc_world_spec.specs.{declared.value.Name.Name, declared.value.Value.Value, declared.node.Parts.Parts, declared.node.Node.Node, declared.node.Node.TheVariants.Thunk, declared.node.Node.TheVariants.Weak, declared.node.Node.TheVariants.Stack, declared.change.Change.Change, declared.command.Command.Command, World.World, World.node_of, World.parts_held, World.is_same_name, Reach.strong_fields, Reach.names_among, Written.asked}
 use Rattle.nmgc_world_spec.specs.declared.value.Value.TheVariants as value
 use Rattle.nmgc_world_spec.specs.declared.change.Change.TheVariants as change
@@ -107,3 +108,18 @@ stored_in after made field = option_to_list (came_in after field) ++ names_among
 abbrev pub handed_in : Bool → World → World → Name → Option Field → List Name
 handed_in true snapshot after made field = []
 handed_in false snapshot after made field = filter (is_pushed_in snapshot) (stored_in after made field)
+
+-- sorted names: no name is before its predecessor in the list
+abbrev pub AreSorted : List Name → Type 0
+AreSorted names = IsSortedByKey {X = Name} {K = ℕ × ℕ} (λ (name : Name). (name.maker, name.serial)) (λ a b. ordering_then (nat_cmp a.0 b.0) (nat_cmp a.1 b.1)) names
+
+-- sorted names, each once
+abbrev pub once : List Name → List Name
+once [] = []
+once (name ∷ []) = name ∷ []
+once (name ∷ next ∷ names) = if is_same_name name next then once (next ∷ names) else name ∷ once (next ∷ names)
+
+-- a count, with one more or not
+abbrev pub added : Bool → ℕ → ℕ
+added true count = count + 1
+added false count = count

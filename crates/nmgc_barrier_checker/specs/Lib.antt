@@ -1,6 +1,8 @@
 pub mod Accounts
+pub mod CameDue
 pub mod Cycles
 pub mod Dues
+pub mod First
 pub mod NameSet
 pub mod SortedNames
 pub mod Rows

@@ -6,7 +6,7 @@ use Rattle.nmgc_snapshot_laws.specs.{State.State, Machine.IsPossible, Closing.Is
 use Rattle.nmgc_barrier_laws.specs.{declared.debt.Debt.Debt, Barrier.Beside}
 use Rattle.nmgc_barrier_laws.specs.Cycle.{Cycle, IsPushed, IsTook, IsAllTaken, IsEnd, IsEndWith, IsDeadAmong, Needs, MarksName}
 use Rattle.nmgc_barrier_laws.specs.Hybrid.{Hybrid, scanned_at_once, beginning, is_scanned, AreScanned, IsWatchedIn, IsScanned, WatchesIn, BesideIn}
-use Rattle.nmgc_barrier_checker.specs.{declared.event.Event.Event, declared.event.Why.Why, declared.cycle_result.CycleResult.CycleResult, declared.watch.Watch.Watch, Cycles.IsWhyNot, Cycles.IsNotDone, Cycles.IsTaken, Cycles.IsNotScanned, Cycles.IsSettled, Cycles.IsUnsettled, Cycles.IsUntakenName, Rows.is_done}
+use Rattle.nmgc_barrier_checker.specs.{declared.event.Event.Event, declared.event.Why.Why, declared.cycle_result.CycleResult.CycleResult, declared.watch.Watch.Watch, Cycles.IsWhyNot, Cycles.IsNotDone, Cycles.IsTaken, Cycles.IsNotScanned, Cycles.IsSettled, Cycles.IsUnsettled, Cycles.IsUntakenName, First.IsEarliest, First.IsFirstName, First.StandsFirst, Rows.is_done}
 use Rattle.nmgc_barrier_checker.specs.declared.event.Event.TheVariants as event
 use Rattle.nmgc_barrier_checker.specs.declared.event.Why.TheVariants as why
 use Rattle.nmgc_barrier_checker.specs.declared.watch.Watch.TheVariants as watch
@@ -87,6 +87,16 @@ is_stopped (watch.Between w) = false
 is_stopped (watch.Marking h) = false
 is_stopped (watch.Ended left) = false
 is_stopped watch.Stopped = true
+
+-- whether a cycle goes on
+abbrev pub is_marking : Watch → Bool
+is_marking (watch.Marking h) = true
+is_marking p = false
+
+-- a debt of the cycle that goes on
+abbrev pub IsOwed : Watch → Debt → Type 0
+IsOwed (watch.Marking h) debt = Contains h.watch.debts debt
+IsOwed p debt = ⊥
 
 -- the number of mutators in the heap of a watch
 abbrev pub mutators_of : Watch → ℕ
@@ -209,17 +219,17 @@ pub record IsResultWith (h : Cycle) (named : List Name) (left : CycleResult) : T
   pub needed : Lists (Needs h named) left.needed
   pub old : AreSerials h.snapshot left.old
 
--- the debt of the least line, as a reason against the end of a cycle
+-- the earliest debt, as a reason against the end of a cycle
 abbrev pub IsFirstDebt : Cycle → Why → Type 0
-IsFirstDebt h y = (debt : Debt) × (y ≡ why.Due debt) × Contains h.debts debt × ((other : Debt) → Contains h.debts other → debt.line ≤ other.line)
+IsFirstDebt h y = (debt : Debt) × (y ≡ why.Due debt) × IsEarliest (Contains h.debts) debt
 
--- a name that was pushed and isn't reported as taken, although takes are reported
+-- the first name that was pushed and isn't reported as taken, although takes are reported
 abbrev pub IsUntaken : Cycle → Why → Type 0
-IsUntaken h y = (name : Name) × (y ≡ why.Untaken name) × IsUntakenName h name
+IsUntaken h y = (name : Name) × (y ≡ why.Untaken name) × IsFirstName (IsUntakenName h) name
 
--- the reasons why a cycle can't end, whichever weak pointers die: the first debt, or an untaken name
+-- the reason why a cycle can't end, whichever weak pointers die: the earliest debt or, without debts, the first untaken name
 abbrev pub IsAgainst : Cycle → Why → Type 0
-IsAgainst h y = IsFirstDebt h y ⊎ IsUntaken h y
+IsAgainst h y = IsFirstDebt h y ⊎ ((h.debts ≡ []) × IsUntaken h y)
 
 -- the outcome of a test whether a cycle can end: there are no debts and no untaken names, or there is a reason
 abbrev pub IsAgainstIf : Cycle → Option Why → Type 0
@@ -231,20 +241,24 @@ abbrev pub IsEnding : Cycle → Result CycleResult Why → Type 0
 IsEnding h (Ok left) = IsLeft h left
 IsEnding h (Err y) = IsAgainst h y
 
--- a mutator of the cycle that isn't scanned, as a reason against the end of the cycle
+-- the first mutator that isn't scanned
+abbrev pub IsFirstUnscanned : Hybrid → ℕ → Type 0
+IsFirstUnscanned h m = (m < length h.watch.world.mutators) × (is_scanned h m ≡ false) × ((k : ℕ) → k < m → is_scanned h k ≡ true)
+
+-- the first mutator of the cycle that isn't scanned, as a reason against the end of the cycle
 abbrev pub IsUnscanned : Hybrid → Why → Type 0
-IsUnscanned h y = (m : ℕ) × (y ≡ why.Unscanned m) × (m < length h.watch.world.mutators) × (is_scanned h m ≡ false)
+IsUnscanned h y = (m : ℕ) × (y ≡ why.Unscanned m) × IsFirstUnscanned h m
 
 -- the outcome of a search for a mutator that isn't scanned
 abbrev pub IsUnscannedIf : Hybrid → Option ℕ → Type 0
 IsUnscannedIf h None = AreScanned h
-IsUnscannedIf h (Some m) = (m < length h.watch.world.mutators) × (is_scanned h m ≡ false)
+IsUnscannedIf h (Some m) = IsFirstUnscanned h m
 
 -- the outcome of a request to end a cycle with later roots: all mutators are scanned, and the result of the close, or a
 -- reason
 abbrev pub IsEndingIn : Hybrid → Result CycleResult Why → Type 0
 IsEndingIn h (Ok left) = AreScanned h × IsLeft h.watch left
-IsEndingIn h (Err y) = IsUnscanned h y ⊎ IsAgainst h.watch y
+IsEndingIn h (Err y) = IsUnscanned h y ⊎ (AreScanned h × IsAgainst h.watch y)
 
 -- the end of marking in a cycle without debts, with the result of the close; all mutators are scanned
 abbrev pub CanClose : Watch → Watch → Type 0
@@ -256,7 +270,7 @@ CanClose watch.Stopped next = ⊥
 -- the reasons why marking can't end: there is no cycle, a mutator isn't scanned, or there is a reason against the cycle's end
 abbrev pub WhyClose : Watch → Why → Type 0
 WhyClose (watch.Between w) y = y ≡ why.Misplaced
-WhyClose (watch.Marking h) y = IsUnscanned h y ⊎ IsAgainst h.watch y
+WhyClose (watch.Marking h) y = IsUnscanned h y ⊎ (AreScanned h × IsAgainst h.watch y)
 WhyClose (watch.Ended left) y = y ≡ why.Misplaced
 WhyClose watch.Stopped y = y ≡ why.Misplaced
 
@@ -267,30 +281,34 @@ CanCloseWith named (watch.Marking h) next = (left : CycleResult) × IsResultWith
 CanCloseWith named (watch.Ended left) next = ⊥
 CanCloseWith named watch.Stopped next = ⊥
 
--- a reported weak pointer that isn't dead if exactly the reported weak pointers die
+-- the first reported weak pointer that isn't dead if exactly the reported weak pointers die
 abbrev pub IsNotDead : Cycle → List Name → Why → Type 0
-IsNotDead h named y = (weak : Name) × (y ≡ why.NotDead weak) × Contains named weak × (IsDeadAmong h named weak → ⊥)
+IsNotDead h named y = (weak : Name) × (y ≡ why.NotDead weak) × StandsFirst named (λ other. IsDeadAmong h named other → ⊥) weak
 
 -- the outcome of a search for a reported weak pointer that isn't dead if exactly the reported weak pointers die
 abbrev pub IsDeadIf : Cycle → List Name → Option Name → Type 0
 IsDeadIf h named None = (weak : Name) → Contains named weak → IsDeadAmong h named weak
-IsDeadIf h named (Some weak) = Contains named weak × (IsDeadAmong h named weak → ⊥)
+IsDeadIf h named (Some weak) = StandsFirst named (λ other. IsDeadAmong h named other → ⊥) weak
+
+-- the reason why a cycle can't end so that exactly these die: against any end, or else the first of them that isn't dead
+abbrev pub IsAgainstWith : Cycle → List Name → Why → Type 0
+IsAgainstWith h named y = IsAgainst h y ⊎ ((h.debts ≡ []) × IsAllTaken h × IsNotDead h named y)
 
 -- the outcome of a request to end a cycle so that exactly these die: the result of the close, or a reason against it
 abbrev pub IsEndingWith : Cycle → List Name → Result CycleResult Why → Type 0
 IsEndingWith h named (Ok left) = IsResultWith h named left
-IsEndingWith h named (Err y) = IsAgainst h y ⊎ IsNotDead h named y
+IsEndingWith h named (Err y) = IsAgainstWith h named y
 
 -- the outcome of a request to end a cycle with later roots so that exactly these die
 abbrev pub IsEndingWithIn : Hybrid → List Name → Result CycleResult Why → Type 0
 IsEndingWithIn h named (Ok left) = AreScanned h × IsResultWith h.watch named left
-IsEndingWithIn h named (Err y) = IsUnscanned h y ⊎ (IsAgainst h.watch y ⊎ IsNotDead h.watch named y)
+IsEndingWithIn h named (Err y) = IsUnscanned h y ⊎ (AreScanned h × IsAgainstWith h.watch named y)
 
 -- the reasons why marking can't end so that exactly these die: no cycle, a mutator isn't scanned, a reason against the
 -- cycle's end, or one of them isn't dead
 abbrev pub WhyCloseWith : List Name → Watch → Why → Type 0
 WhyCloseWith named (watch.Between w) y = y ≡ why.Misplaced
-WhyCloseWith named (watch.Marking h) y = IsUnscanned h y ⊎ (IsAgainst h.watch y ⊎ IsNotDead h.watch named y)
+WhyCloseWith named (watch.Marking h) y = IsUnscanned h y ⊎ (AreScanned h × IsAgainstWith h.watch named y)
 WhyCloseWith named (watch.Ended left) y = y ≡ why.Misplaced
 WhyCloseWith named watch.Stopped y = y ≡ why.Misplaced
 
@@ -301,22 +319,22 @@ CanMarked names (watch.Marking h) next = ⊥
 CanMarked names (watch.Ended left) next = ((name : Name) → Contains names name ↔ Contains left.kept name) × (next ≡ watch.Ended left)
 CanMarked names watch.Stopped next = ⊥
 
--- a name of `others` that isn't in `names`
+-- the first name of `others` that isn't in `names`
 abbrev pub IsMissing : List Name → List Name → Name → Type 0
-IsMissing names others name = Contains others name × (Contains names name → ⊥)
+IsMissing names others name = StandsFirst others (λ other. Contains names other → ⊥) name
 
 -- the outcome of a search for a name of `others` that isn't in `names`
 abbrev pub IsMissingIf : List Name → List Name → Option Name → Type 0
 IsMissingIf names others None = (name : Name) → Contains others name → Contains names name
 IsMissingIf names others (Some name) = IsMissing names others name
 
--- the reasons why the runtime can't have marked exactly these names: there was no cycle, a cycle goes on, a kept name isn't
--- reported, or a reported name isn't kept
+-- the reason why the runtime can't have marked exactly these names: there was no cycle, a cycle goes on, or a kept name isn't
+-- reported. If all are reported: a reported name isn't kept. In both cases it is the first such name
 abbrev pub WhyMarked : List Name → Watch → Why → Type 0
 WhyMarked names (watch.Between w) y = y ≡ why.Misplaced
 WhyMarked names (watch.Marking h) y = y ≡ why.Misplaced
 WhyMarked names (watch.Ended left) y = ((name : Name) × (y ≡ why.NotListed name) × IsMissing names left.kept name) ⊎
-    ((name : Name) × (y ≡ why.NotMarked name) × IsMissing left.kept names name)
+    (((name : Name) → Contains left.kept name → Contains names name) × ((name : Name) × (y ≡ why.NotMarked name) × IsMissing left.kept names name))
 WhyMarked names watch.Stopped y = y ≡ why.Misplaced
 
 -- whether the name is g or one of a world's names, by the number of names of each mutator in the world
@@ -338,16 +356,17 @@ CanFreed names (watch.Marking h) next = ⊥
 CanFreed names (watch.Ended left) next = ((name : Name) → Contains names name → MayFree left name) × (next ≡ watch.Ended left)
 CanFreed names watch.Stopped next = ⊥
 
--- the reasons why a name can't have been freed: the heap doesn't have it, it was made since the snapshot, or it is needed
+-- the reason why a name can't have been freed: the heap doesn't have it. If the heap has it: it was made since the snapshot,
+-- or else it is needed
 abbrev pub WhyKept : CycleResult → Name → Why → Type 0
-WhyKept left name y = ((y ≡ why.NoSuchName name) × (IsSome (node_of left.world name) → ⊥)) ⊎
-    (((y ≡ why.NotOld name) × (IsOld left name → ⊥)) ⊎ ((y ≡ why.Needed name) × Contains left.needed name))
+WhyKept left name y = ((y ≡ why.NoSuchName name) × (IsSome (node_of left.world name) → ⊥)) ⊎ (IsSome (node_of left.world name) ×
+    (((y ≡ why.NotOld name) × (IsOld left name → ⊥)) ⊎ ((y ≡ why.Needed name) × IsOld left name × Contains left.needed name)))
 
--- the reasons why the runtime can't have freed these names: no cycle, a cycle goes on, or a name among them can't be freed
+-- the reasons why the runtime can't have freed these names: no cycle, a cycle goes on, or the first of them that can't be freed
 abbrev pub WhyFreed : List Name → Watch → Why → Type 0
 WhyFreed names (watch.Between w) y = y ≡ why.Misplaced
 WhyFreed names (watch.Marking h) y = y ≡ why.Misplaced
-WhyFreed names (watch.Ended left) y = (name : Name) × Contains names name × WhyKept left name y
+WhyFreed names (watch.Ended left) y = (name : Name) × StandsFirst names (λ other. MayFree left other → ⊥) name × WhyKept left name y
 WhyFreed names watch.Stopped y = y ≡ why.Misplaced
 
 -- the outcome of a check of reported marked names: exactly these names are kept, or there is a reason

@@ -1,17 +1,19 @@
 //! The debts of each mutator. A debt is a name that a mutator's command made due, with the command's line. It is unpaid until
 //! the name is pushed. Each mutator has a queue of its debts, in the order in which they came, and the set of the names that
 //! came due by it so far. So a name enters a queue at most once, and all queues together take memory for each name and
-//! mutator. Paid debts leave a queue from the front (`forget_paid`), so a mutator settles in amortised constant time,
-//! whatever other mutators owe. The reason against an end is the unpaid debt of the least line in all queues.
+//! mutator. No debt has a greater line than `newest`. Paid debts leave a queue from the front (`forget_paid`), so a mutator settles in amortised constant time,
+//! whatever other mutators owe. A reason is about the earliest unpaid debt: of the least line and, of that line, of the first
+//! name.
 //!
 //! Easy to get wrong: two mutators may owe the same name, if commands of both made it due.
-ghost use Rattle.std.specs.Prelude.{◌≡◌, ◌⊎◌, ◌<◌, ◌≤◌, ◌∷◌, ◌++◌, List, [], false, length, replicate, slice_get, IfOk, OnOk, OnErr, All, Contains, Some, None};
+ghost use Rattle.std.specs.Prelude.{◌≡◌, ◌⊎◌, ◌↔◌, ◌<◌, ◌∷◌, ◌++◌, List, [], false, leb, length, replicate, IsTrue, IfOk, OnOk, OnErr, All, Contains, Some, None};
 ghost use Rattle.nmgc_world_spec.specs.declared.value.Name.{Name as NameAt};
 ghost use Rattle.nmgc_graph.specs.Marks.{HasPlaces, mark_of};
 ghost use Rattle.nmgc_barrier_laws.specs.declared.debt.Debt.{Debt as DebtAt};
-ghost use Rattle.nmgc_barrier_checker.specs.Accounts.{AreAccounts, AreNew, IsOwing, IsForgotten, IsLeastIn, IsPaidUp, owed_one, queue_of, all_debts, unpaid};
+ghost use Rattle.nmgc_barrier_checker.specs.{Accounts.AreAccounts, Accounts.AreNew, Accounts.IsOwing, Accounts.IsForgotten, Accounts.IsLeastIn, Accounts.IsPaidUp, Accounts.owed_one, Accounts.queue_of, Accounts.all_debts, Accounts.unpaid, First.IsEarlier};
 
 use crate::due::is_owable;
+use crate::sorted_names::is_before;
 use nmgc_barrier_laws::Debt;
 use nmgc_graph::{Marks, World};
 use nmgc_lists::{List, NoMemory, Queue};
@@ -23,6 +25,7 @@ use std::alloc::Global;
 pub(crate) struct Accounts {
     pub(crate) debts: List<Queue<Debt>>,
     pub(crate) names: List<Marks>,
+    pub(crate) newest: usize,
 }
 
 impl Accounts {
@@ -32,7 +35,11 @@ impl Accounts {
     {
         let debts = empty_queues(snapshot.alloc(), snapshot.mutators())?;
         let names = empty_sets(snapshot)?;
-        Ok(Accounts { debts, names })
+        Ok(Accounts {
+            debts,
+            names,
+            newest: 0,
+        })
     }
 
     /// Adds a debt of the mutator and the line for each of `names`, except names that can't be due (`is_owable`), were pushed
@@ -80,6 +87,7 @@ impl Accounts {
         }
         self.debts.items_mut()[mutator].push(debt)?;
         self.names.items_mut()[mutator].insert(debt.name);
+        self.newest = self.newest.max(debt.line);
         Ok(())
     }
 
@@ -91,30 +99,25 @@ impl Accounts {
         forget_paid(marks, &mut self.debts.items_mut()[mutator as usize]);
     }
 
-    /// Returns the first unpaid debt of a mutator, if any, and removes all debts before it, or all debts if none is unpaid.
+    /// Returns the earliest unpaid debt of a mutator, if any, and removes paid debts from the front of its queue. Takes
+    /// amortised constant time if there is none, and otherwise time for each debt in the queue.
     pub(crate) fn first_unpaid(&mut self, marks: &Marks, mutator: u8) -> Option<Debt>
         requires { mutator < length self.old.debts }
         ensures forgotten { IsForgotten marks.now mutator self.old self.new }
-        ensures first { result ≡ slice_get (unpaid marks.now (queue_of self.old.debts mutator)) 0 }
+        ensures first { IsLeastIn (unpaid marks.now (queue_of self.old.debts mutator)) result }
     {
         self.forget(marks, mutator);
-        self.debts.items()[mutator as usize].first()
+        least_of(marks, self.debts.items()[mutator as usize].items(), None)
     }
 
-    /// Whether the last debt in some mutator's queue has this line. Right after the line's command, this means that the
-    /// command made a name due that wasn't pushed and hadn't come due by its mutator before. Takes time for each mutator.
-    pub(crate) fn has_debt_of_line(&self, line: usize) -> bool {
-        for queue in self.debts.items() {
-            if let Some(debt) = queue.items().last() {
-                if debt.line == line {
-                    return true;
-                }
-            }
-        }
-        false
+    /// Whether a debt of this line or of a greater line was added. If not, no debt has this line. Takes constant time.
+    pub(crate) fn may_have_debt_of_line(&self, line: usize) -> bool
+        ensures { result ≡ leb line self.now.newest }
+    {
+        line <= self.newest
     }
 
-    /// Returns an unpaid debt of the least line, or `None` if no debt is unpaid. Takes time for each debt in the queues.
+    /// Returns the earliest unpaid debt, or `None` if no debt is unpaid. Takes time for each debt in the queues.
     pub(crate) fn least_unpaid(&self, marks: &Marks) -> Option<Debt>
         ensures { IsLeastIn (unpaid marks.now (all_debts self.now.debts)) result }
     {
@@ -160,7 +163,7 @@ fn forget_paid(marks: &Marks, debts: &mut Queue<Debt>)
     }
 }
 
-// Returns an unpaid debt of the least line in all queues, or `None` if no debt is unpaid.
+// Returns the earliest unpaid debt in all queues, or `None` if no debt is unpaid.
 fn least_among(marks: &Marks, queues: &[Queue<Debt>]) -> Option<Debt>
     ensures { IsLeastIn (unpaid marks.now (all_debts queues.now)) result }
 {
@@ -171,7 +174,7 @@ fn least_among(marks: &Marks, queues: &[Queue<Debt>]) -> Option<Debt>
     least
 }
 
-// Returns a debt of the least line among `so_far` and the unpaid debts of `debts`, or `None` if there is no such debt.
+// Returns the earliest debt among `so_far` and the unpaid debts of `debts`, or `None` if there is no such debt.
 fn least_of(marks: &Marks, debts: &[Debt], so_far: Option<Debt>) -> Option<Debt>
     ensures { (before : List DebtAt) → IsLeastIn before so_far → IsLeastIn (before ++ unpaid marks.now debts.now) result }
 {
@@ -182,7 +185,7 @@ fn least_of(marks: &Marks, debts: &[Debt], so_far: Option<Debt>) -> Option<Debt>
     least
 }
 
-// Returns `so_far` if `debt` is paid. Otherwise returns the debt of the lesser line, which is `debt` if there is no `so_far`.
+// Returns `so_far` if `debt` is paid. Otherwise returns the earlier debt, which is `debt` if there is no `so_far`.
 fn lesser_unpaid(marks: &Marks, so_far: Option<Debt>, debt: Debt) -> Option<Debt>
     ensures { (before : List DebtAt) → IsLeastIn before so_far → IsLeastIn (before ++ unpaid marks.now (debt ∷ [])) result }
 {
@@ -192,13 +195,20 @@ fn lesser_unpaid(marks: &Marks, so_far: Option<Debt>, debt: Debt) -> Option<Debt
     Some(earlier_debt(so_far, debt))
 }
 
-// Returns the debt of the lesser line: `first` if the lines are the same, and `second` if there is no `first`.
+// Returns the earlier debt: `first` if neither is earlier, and `second` if there is no `first`.
 fn earlier_debt(first: Option<Debt>, second: Debt) -> Debt
-    ensures some { (d : DebtAt) → first ≡ Some d → ((result ≡ d) × (d.line ≤ second.line)) ⊎ ((result ≡ second) × (second.line ≤ d.line)) }
+    ensures some { (d : DebtAt) → first ≡ Some d → ((result ≡ d) × (IsEarlier second d → ⊥)) ⊎ ((result ≡ second) × IsEarlier second d) }
     ensures none { first ≡ None → result ≡ second }
 {
     match first {
-        Some(debt) if debt.line <= second.line => debt,
+        Some(debt) if !is_earlier(second, debt) => debt,
         _ => second,
     }
+}
+
+// Whether the debt `a` is earlier than `b`: by line, and then by name.
+fn is_earlier(a: Debt, b: Debt) -> bool
+    ensures { IsTrue result ↔ IsEarlier a b }
+{
+    a.line < b.line || (a.line == b.line && is_before(a.name, b.name))
 }

@@ -149,7 +149,6 @@ impl Cycle {
             kept: SortedNames::new(kept),
             needed: SortedNames::new(needed),
             old,
-            dues: self.dues(),
         })
     }
 

@@ -7,18 +7,20 @@
 //! Which mutators are scanned is passed in (`scans`), since only commands depend on it (`watch` keeps it).
 //!
 //! Easy to get wrong: a name outside the snapshot has no position in a set. It can't be due; a push of it changes nothing.
-ghost use Rattle.std.specs.Prelude.{◌≡◌, ◌↔◌, ◌<◌, ◌++◌, false, length, slice_index_or, IfOk, OnOk, IsSome, IsTrue};
-ghost use Rattle.nmgc_world_spec.specs.World.{node_of, state_of, next_name};
+ghost use Rattle.std.specs.Prelude.{◌≡◌, ◌↔◌, ◌<◌, ◌⊎◌, ◌++◌, ◌∷◌, List, [], true, false, length, slice_index_or, Contains, None, Some, IfOk, OnOk, IsSome, IsTrue};
+ghost use Rattle.nmgc_barrier_laws.specs.declared.debt.Debt.{Debt as DebtAt};
+ghost use Rattle.nmgc_world_spec.specs.{declared.value.Name.Name as NameAt, Reach.IsBefore, World.node_of, World.state_of, World.next_name};
 ghost use Rattle.nmgc_barrier_checker.specs.{Dues.targets, Dues.handed_in, Cycles.IsUntakenIn, Cycles.is_untaken};
 
 use crate::accounts::Accounts;
 use crate::due::{
-    Field, coming_field, common_fields, is_owable, kept_by_weaks, missing_fields, names_in,
+    Field, coming_field, common_fields, count_due, kept_by_weaks, missing_fields, names_in,
     owable_names, push_came,
 };
 use crate::event::Why;
 use crate::name_set::NameSet;
 use crate::rows::is_done;
+use crate::sorted_names::is_before;
 use nmgc_barrier_laws::Debt;
 use nmgc_graph::World;
 use nmgc_graph::opened::{finalised_by, names_among, opened_by};
@@ -37,7 +39,6 @@ pub struct Cycle {
     pub(crate) opened: NameSet,
     taken: NameSet,
     pub(crate) finalised: Queue<Name>,
-    dues: u64,
 }
 
 impl Model for Cycle {
@@ -53,7 +54,8 @@ impl Model for Cycle {
 
 impl Cycle {
     ghost use Rattle.nmgc_world_spec.specs.Known.{CanApply};
-    ghost use Rattle.nmgc_barrier_laws.specs.{Cycle.watching, Cycle.IsPushed, Hybrid.beginning};
+    ghost use Rattle.nmgc_barrier_laws.specs.{Cycle.watching, Cycle.IsPushed, Hybrid.beginning, Hybrid.IsDueIn};
+    ghost use Rattle.nmgc_barrier_checker.specs.CameDue.{IsAdded, IsAddedIf};
     ghost use Rattle.nmgc_barrier_checker.specs.Cycles.{IsSnapshotOf, with_scans, IsTaken, IsRead, IsCommand, IsActing, IsPush, IsSettle, IsTake, IsLeastDebt, IsUntakenIf};
 
     /// Begins a cycle with this world as its snapshot. Takes time and memory for each object, and for each name and mutator.
@@ -94,7 +96,6 @@ impl Cycle {
             opened,
             taken,
             finalised,
-            dues: 0,
         })
     }
 
@@ -105,22 +106,19 @@ impl Cycle {
         &self.world
     }
 
-    /// Returns how often commands made a name due so far, at most `u64::MAX`. A name counts even if it was pushed before. A
-    /// name that a `finalise` opens counts twice if the weak pointer was alive in the snapshot. Takes constant time.
-    pub fn dues(&self) -> u64 {
-        self.dues
-    }
-
-    /// Whether the command just done at this line made a name due that wasn't pushed and hadn't come due by its mutator
-    /// before in the cycle. If so, a reason may report the line. Takes no memory, and time for each mutator.
-    pub fn has_new_debt_of_line(&self, line: usize) -> bool {
-        self.accounts.has_debt_of_line(line)
+    /// Whether a debt may have this line: a debt of this line or of a greater line was added in the cycle. If lines ascend, the
+    /// answer after a line's command is yes exactly if the command added a debt. Takes no memory and constant time.
+    pub fn may_owe_since(&self, line: usize) -> bool
+        ensures { (debt : DebtAt) → Contains self.now.debts debt → debt.line ≡ line → result ≡ true }
+    {
+        self.accounts.may_have_debt_of_line(line)
     }
 
     /// Does a mutator's command if the heap can take it and gives this answer. Otherwise returns why not, and changes
     /// nothing. Names that come due are due since `line`, unless they were pushed or the mutator owes them already. A mutator
-    /// that isn't scanned also owes the names that it stores. After `NoMemory` any state is possible. Takes amortised constant
-    /// time for each operand, and each field made or lost.
+    /// that isn't scanned also owes the names that it stores. Adds the number of names that came due, pushed or not, to `dues`.
+    /// After `NoMemory` any state is possible. Takes amortised constant time for each operand, and the time of a sort for
+    /// fields made or lost.
     pub fn do_command(
         &mut self,
         scans: &[bool],
@@ -128,8 +126,10 @@ impl Cycle {
         mutator: u8,
         command: &Command,
         answer: Reply,
+        dues: &mut u64,
     ) -> Result<Option<Why>, NoMemory>
-        ensures { IfOk result (λ why. IsCommand line mutator command.now answer (with_scans scans.now self.old) why (with_scans scans.now self.new)) }
+        ensures command { IfOk result (λ why. IsCommand line mutator command.now answer (with_scans scans.now self.old) why (with_scans scans.now self.new)) }
+        ensures dues { IfOk result (λ why. IsAddedIf (IsDueIn (with_scans scans.now self.old) mutator command.now) why dues.old dues.new) }
     {
         if !self.world.can_apply(mutator, command) {
             return Ok(Some(Why::CannotApply));
@@ -138,19 +138,22 @@ impl Cycle {
         if reply != answer {
             return Ok(Some(Why::Answer(reply)));
         }
-        self.give(scans, line, mutator, command)?;
+        self.give(scans, line, mutator, command, dues)?;
         Ok(None)
     }
 
     /// Does a mutator's command if the heap takes it with an answer that means done, or returns why not and changes nothing.
+    /// Adds the number of names that came due to `dues`.
     pub fn act(
         &mut self,
         scans: &[bool],
         line: usize,
         mutator: u8,
         command: &Command,
+        dues: &mut u64,
     ) -> Result<Option<Why>, NoMemory>
-        ensures { IfOk result (λ why. IsActing line mutator command.now (with_scans scans.now self.old) why (with_scans scans.now self.new)) }
+        ensures dues { IfOk result (λ why. IsAddedIf (IsDueIn (with_scans scans.now self.old) mutator command.now) why dues.old dues.new) }
+        ensures command { IfOk result (λ why. IsActing line mutator command.now (with_scans scans.now self.old) why (with_scans scans.now self.new)) }
     {
         if !self.world.can_apply(mutator, command) {
             return Ok(Some(Why::CannotApply));
@@ -159,22 +162,25 @@ impl Cycle {
         if !is_done(reply) {
             return Ok(Some(Why::Answer(reply)));
         }
-        self.give(scans, line, mutator, command)?;
+        self.give(scans, line, mutator, command, dues)?;
         Ok(None)
     }
 
     // Does a mutator's command, whatever the heap answers. Requires that the world can take it. Adds the names of the
     // snapshot that it opens, or stores before its mutator is scanned (`scans`), and the weak pointers that it finalises.
-    // Afterwards each name that came due was pushed, or is a debt of this mutator. A new debt gets the line `line`.
+    // Afterwards each name that came due was pushed, or is a debt of this mutator. A new debt gets the line `line`. Adds the
+    // number of names that came due to `dues`.
     fn give(
         &mut self,
         scans: &[bool],
         line: usize,
         mutator: u8,
         command: &Command,
+        dues: &mut u64,
     ) -> Result<(), NoMemory>
         requires { CanApply self.old.world mutator command.now }
-        ensures { OnOk result (IsTaken line mutator command.now (with_scans scans.now self.old) (with_scans scans.now self.new)) }
+        ensures dues { OnOk result (IsAdded (IsDueIn (with_scans scans.now self.old) mutator command.now) dues.old dues.new) }
+        ensures taken { OnOk result (IsTaken line mutator command.now (with_scans scans.now self.old) (with_scans scans.now self.new)) }
     {
         let fields = common_fields(&self.snapshot, &self.world, mutator, command)?;
         let opens = opened_by(&self.world, mutator, command)?;
@@ -192,8 +198,8 @@ impl Cycle {
         let alloc = self.world.alloc();
         let mut names = due_candidates(alloc, lost.items(), opens.as_slice(), kept.as_slice())?;
         names.extend_from_slice(handed.as_slice())?;
-        let came = count_due(&self.snapshot, names.as_slice());
-        self.dues = self.dues.saturating_add(came);
+        let came = count_due(&self.snapshot, names.as_slice())?;
+        *dues = dues.saturating_add(came);
         let marks = &self.remembered.set;
         self.accounts
             .owe(&self.snapshot, marks, line, mutator, names.as_slice())?;
@@ -232,8 +238,9 @@ impl Cycle {
         Ok(())
     }
 
-    /// Returns the reason why a mutator hasn't settled, or `None` if it has. The reason is an unpaid debt of its commands, or
-    /// that there is no such mutator. Changes nothing. Takes amortised constant time, whatever other mutators owe.
+    /// Returns the reason why a mutator hasn't settled, or `None` if it has. The reason is the earliest unpaid debt of its
+    /// commands, or that there is no such mutator. Changes nothing. Takes amortised constant time if the mutator has settled,
+    /// whatever other mutators owe, and otherwise time for each of its debts.
     pub fn reason_against_settle(&mut self, mutator: u8) -> Option<Why>
         ensures settle { IsSettle mutator self.old result }
         ensures same { self.new ≡ self.old }
@@ -258,15 +265,15 @@ impl Cycle {
         Ok(None)
     }
 
-    /// Returns an unpaid debt of the least line, or `None` if there are no unpaid debts. Takes time for each debt.
+    /// Returns the earliest unpaid debt, or `None` if there are no unpaid debts. Takes time for each debt.
     pub fn first_debt(&self) -> Option<Debt>
         ensures { IsLeastDebt self.now result }
     {
         self.accounts.least_unpaid(&self.remembered.set)
     }
 
-    /// Returns the first pushed name, except g, that isn't among the taken names. Returns `None` if there is no such name, or
-    /// if no take was reported in the cycle. Takes time for each pushed name.
+    /// Returns the first name in order, except g, that was pushed and isn't among the taken names. Returns `None` if there is no
+    /// such name, or if no take was reported in the cycle. Takes time for each pushed name.
     pub fn first_untaken(&self) -> Option<Name>
         ensures { IsUntakenIf self.now result }
     {
@@ -277,27 +284,36 @@ impl Cycle {
     }
 }
 
-// Counts the items of `names` that may be due (`is_owable`). A name that is there twice counts twice.
-fn count_due(snapshot: &World, names: &[Name]) -> u64 {
-    let mut count = 0_u64;
-    for name in names {
-        if is_owable(snapshot, *name) {
-            count = count.saturating_add(1);
-        }
-    }
-    count
-}
-
-// Returns the first of `names` that still has to be taken, if there is one.
+// Returns the first name in order, among `names`, that still has to be taken, if there is one.
 fn first_untaken_in(taken: &NameSet, names: &[Name]) -> Option<Name>
     ensures { IsUntakenIn taken.now names.now result }
 {
+    let mut first = None;
     for name in names {
-        if is_untaken(taken, *name) {
-            return Some(*name);
-        }
+        first = earlier_untaken(taken, first, *name);
     }
-    None
+    first
+}
+
+// Returns the first in order of `first` and `name` if `name` still has to be taken, and otherwise `first`.
+fn earlier_untaken(taken: &NameSet, first: Option<Name>, name: Name) -> Option<Name>
+    ensures { (before : List NameAt) → IsUntakenIn taken.now before first → IsUntakenIn taken.now (before ++ name ∷ []) result }
+{
+    if !is_untaken(taken, name) {
+        return first;
+    }
+    Some(earlier_name(first, name))
+}
+
+// Returns the name that comes before the other, or `second` if there is no `first`.
+fn earlier_name(first: Option<Name>, second: Name) -> Name
+    ensures some { (n : NameAt) → first ≡ Some n → ((result ≡ n) × (IsBefore second n → ⊥)) ⊎ ((result ≡ second) × IsBefore second n) }
+    ensures none { first ≡ None → result ≡ second }
+{
+    match first {
+        Some(name) if !is_before(second, name) => name,
+        _ => second,
+    }
 }
 
 // Whether a name still has to be taken: it isn't g, and isn't among the taken names.

@@ -19,14 +19,12 @@ use nmgc_world_spec::Name;
 /// - `kept`: the names of the snapshot that the commands and the pushes keep, in order.
 /// - `needed`: names, in order, not to be freed if the same weak pointers die: commands or living weak pointers keep them.
 /// - `old`: the number of names of each mutator in the snapshot. A name whose serial isn't below it was made since.
-/// - `dues`: how often a command made a name due in the cycle, counted as by `Cycle::dues`.
 #[derive(Drop)]
 pub struct CycleResult {
     pub world: World,
     pub kept: SortedNames,
     pub needed: SortedNames,
     pub old: List<u32>,
-    pub dues: u64,
 }
 
 impl CycleResult {

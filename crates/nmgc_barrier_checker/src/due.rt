@@ -10,11 +10,12 @@
 //!
 //! Easy to get wrong: a field of the snapshot that was broken is whole again only if its target is written back to the same
 //! position of the same object. Another field with the same target is no field of the snapshot.
-ghost use Rattle.std.specs.Prelude.{◌≡◌, ◌<◌, ◌≤◌, ◌++◌, true, false, length, filter, not, option_to_list, Some, IfOk, OnOk, Contains};
-ghost use Rattle.nmgc_world_spec.specs.{World.node_of, Reach.names_among, Known.HasRegisters};
+ghost use Rattle.std.specs.Prelude.{◌≡◌, ◌+◌, ◌<◌, ◌≤◌, ◌++◌, take, true, false, length, filter, not, option_to_list, Some, IfOk, OnOk, Contains};
+ghost use Rattle.std.specs.List.Sorted.{IsPermutation};
+ghost use Rattle.nmgc_world_spec.specs.{World.node_of, Reach.Counts, Reach.names_among, Known.HasRegisters};
 ghost use Rattle.nmgc_world_laws.specs.{Holds.strong_at, Stored.place_written, Stored.value_written};
 ghost use Rattle.nmgc_snapshot_laws.specs.Machine.{is_pushed_in};
-ghost use Rattle.nmgc_barrier_checker.specs.{declared.due.Field.Field as FieldAt, Dues.strong_in, Dues.is_ref_to, Dues.stands_in, Dues.first_place, Dues.end_place, Dues.IsStanding, Dues.IsComing, Dues.came_in, Dues.kept_then, Dues.stored_values, Dues.values_in};
+ghost use Rattle.nmgc_barrier_checker.specs.{declared.due.Field.Field as FieldAt, Dues.strong_in, Dues.is_ref_to, Dues.stands_in, Dues.first_place, Dues.end_place, Dues.IsStanding, Dues.IsComing, Dues.came_in, Dues.kept_then, Dues.stored_values, Dues.values_in, Dues.AreSorted, Dues.added, Dues.once};
 ghost use Rattle.nmgc_world_spec.specs.declared.node.Node.TheVariants as NodeIs;
 ghost use Rattle.nmgc_world_spec.specs.declared.value.Value.TheVariants as ValueIs;
 
@@ -386,6 +387,57 @@ pub(crate) fn owable_names(snapshot: &World, names: &[Name]) -> Result<Vec<Name>
         }
     }
     Ok(owable)
+}
+
+/// Returns the number of names in the list that may be due. A name that is there twice counts once. Takes memory for the
+/// names, and the time of a sort.
+pub(crate) fn count_due(snapshot: &World, names: &[Name]) -> Result<u64, NoMemory>
+    ensures { IfOk result (Counts (Contains (filter (is_pushed_in snapshot.now) names.now))) }
+{
+    let owable = put_in_order(owable_names(snapshot, names)?);
+    Ok(count_sorted(owable.as_slice()))
+}
+
+// Returns the names in order.
+fn put_in_order(names: Vec<Name>) -> Vec<Name>
+    ensures permutation { IsPermutation names.items result.items }
+    ensures sorted { AreSorted result.items }
+{
+    let mut names = names;
+    sort(names.as_mut_slice());
+    names
+}
+
+// Puts names in order, in place.
+fn sort(names: &mut [Name])
+    ensures permutation { IsPermutation names.old names.new }
+    ensures sorted { AreSorted names.new }
+{
+    names.sort_unstable_by_key(|name| (name.maker, name.serial));
+}
+
+// Returns the number of different names in a sorted list.
+fn count_sorted(names: &[Name]) -> u64
+    ensures { result ≡ length (once names.now) }
+{
+    let mut count = 0_u64;
+    for place in 0..names.len() {
+        if is_other(names, place) {
+            count += 1;
+        }
+    }
+    count
+}
+
+// Whether the name at a position is the first, or differs from the name before it.
+fn is_other(names: &[Name], place: usize) -> bool
+    requires { place < length names.now }
+    ensures { length (once (take (place + 1) names.now)) ≡ added result (length (once (take place names.now))) }
+{
+    if place == 0 {
+        return true;
+    }
+    names[place - 1] != names[place]
 }
 
 /// Whether a name may come due: it is in the snapshot and isn't g. Takes no memory and constant time.

@@ -125,8 +125,8 @@ fn place_of(names: &[Name], name: Name) -> usize
     least
 }
 
-// Whether the name `a` comes before `b`: by maker, and then by serial.
-fn is_before(a: Name, b: Name) -> bool
+/// Whether the name `a` comes before `b`: by maker, and then by serial.
+pub(crate) fn is_before(a: Name, b: Name) -> bool
     ensures { IsTrue result ↔ IsBefore a b }
 {
     a.maker < b.maker || (a.maker == b.maker && a.serial < b.serial)

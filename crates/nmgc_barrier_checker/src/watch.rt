@@ -5,7 +5,8 @@
 //! Easy to get wrong: a refused event changes nothing, so a test can go on. But the commands before it in its line stay done.
 ghost use Rattle.std.specs.Prelude.{◌≡◌, ◌↔◌, ◌<◌, ◌≤◌, true, length, replicate, slice_set, IfOk, IsTrue};
 ghost use Rattle.nmgc_world_spec.specs.World.{new_world};
-ghost use Rattle.nmgc_barrier_checker.specs.Watching.{IsStep, IsGivenIf, IsAct, IsDoneIf, AreActed, is_stopped, mutators_of};
+ghost use Rattle.nmgc_barrier_laws.specs.declared.debt.Debt.{Debt as DebtAt};
+ghost use Rattle.nmgc_barrier_checker.specs.{CameDue.AddsDuesIf, CameDue.CountsDuesIf, Watching.IsStep, Watching.IsGivenIf, Watching.IsAct, Watching.IsDoneIf, Watching.IsOwed, Watching.AreActed, Watching.is_marking, Watching.is_stopped, Watching.mutators_of};
 ghost use Rattle.nmgc_barrier_checker.specs.declared.event.Event.TheVariants as event;
 ghost use Rattle.nmgc_barrier_checker.specs.declared.watch.Watch.TheVariants as watch;
 
@@ -38,7 +39,8 @@ impl Model for Running {
 }
 
 impl Running {
-    ghost use Rattle.nmgc_barrier_laws.specs.Hybrid.{scanned_at_once, beginning, is_scanned};
+    ghost use Rattle.nmgc_barrier_laws.specs.Hybrid.{IsDueIn, scanned_at_once, beginning, is_scanned};
+    ghost use Rattle.nmgc_barrier_checker.specs.CameDue.{IsAddedIf};
     ghost use Rattle.nmgc_barrier_checker.specs.{Cycles.IsCommand, Cycles.IsActing, Cycles.IsScan, Cycles.IsSettle, Watching.IsUnscannedIf, Watching.IsEndingIn, Watching.IsEndingWithIn};
 
     // Begins a cycle with this world as its snapshot and all mutators scanned. Takes the time and memory of `Cycle::new`.
@@ -86,18 +88,28 @@ impl Running {
         mutator: u8,
         command: &Command,
         answer: Reply,
+        dues: &mut u64,
     ) -> Result<Option<Why>, NoMemory>
-        ensures { IfOk result (λ why. IsCommand line mutator command.now answer self.old why self.new) }
+        ensures dues { IfOk result (λ why. IsAddedIf (IsDueIn self.old mutator command.now) why dues.old dues.new) }
+        ensures command { IfOk result (λ why. IsCommand line mutator command.now answer self.old why self.new) }
     {
         self.cycle
-            .do_command(self.scans.items(), line, mutator, command, answer)
+            .do_command(self.scans.items(), line, mutator, command, answer, dues)
     }
 
     // Does one of several commands in a line, as `Cycle::act`.
-    fn act(&mut self, line: usize, mutator: u8, command: &Command) -> Result<Option<Why>, NoMemory>
-        ensures { IfOk result (λ why. IsActing line mutator command.now self.old why self.new) }
+    fn act(
+        &mut self,
+        line: usize,
+        mutator: u8,
+        command: &Command,
+        dues: &mut u64,
+    ) -> Result<Option<Why>, NoMemory>
+        ensures dues { IfOk result (λ why. IsAddedIf (IsDueIn self.old mutator command.now) why dues.old dues.new) }
+        ensures command { IfOk result (λ why. IsActing line mutator command.now self.old why self.new) }
     {
-        self.cycle.act(self.scans.items(), line, mutator, command)
+        self.cycle
+            .act(self.scans.items(), line, mutator, command, dues)
     }
 
     // Whether the mutator is scanned.
@@ -202,7 +214,8 @@ impl Watch {
 
     /// Takes the event of a line and returns `None`, or refuses it and returns the reason. `line` is any number of the
     /// caller's, by which a debt is reported. A refused event changes nothing, but several commands in one line
-    /// (`Event::Rows`) are done up to the refused command. After `NoMemory` the watch may be in any state.
+    /// (`Event::Rows`) are done up to the refused command. If the event happened, the number of names that its commands made
+    /// due is added to `dues`: each command counts a name once, pushed or not. After `NoMemory` the watch may be in any state.
     ///
     /// A push, a take and a settled mutator take amortised constant time, and a scan for each register. A command, alone or
     /// among several in a line, takes that time for each operand, each field of an object that it makes, and each field that
@@ -210,16 +223,24 @@ impl Watch {
     /// and each field. A report of marked names takes time for each kept name, and each reported name a binary search. Memory
     /// grows with the heap alone. A cycle has two worlds (or three, as it begins or ends), and a few bytes for each name and
     /// mutator.
-    pub fn step(&mut self, line: usize, event: &Event) -> Result<Option<Why>, NoMemory>
-        ensures { IfOk result (λ why. IsStep line self.old event.now why self.new) }
+    pub fn step(
+        &mut self,
+        line: usize,
+        event: &Event,
+        dues: &mut u64,
+    ) -> Result<Option<Why>, NoMemory>
+        ensures step { IfOk result (λ why. IsStep line self.old event.now why self.new) }
+        ensures dues { IfOk result (λ why. CountsDuesIf line self.old event.now why dues.old dues.new) }
     {
         match event {
             Event::Given {
                 mutator,
                 command,
                 answer,
-            } => self.give(line, *mutator, command, *answer),
-            Event::Rows { mutator, commands } => self.do_line(line, *mutator, commands.items()),
+            } => self.give(line, *mutator, command, *answer, dues),
+            Event::Rows { mutator, commands } => {
+                self.do_line(line, *mutator, commands.items(), dues)
+            }
             Event::Mark => self.mark(),
             Event::MarkShared => self.mark_shared(),
             Event::Scan { mutator } => self.scan(*mutator),
@@ -234,21 +255,22 @@ impl Watch {
         }
     }
 
-    /// Returns how often commands made a name due in the cycle that goes on, or in the last cycle if none goes on
-    /// (`Cycle::dues`). Returns 0 if there was no cycle, and after the stop. A trace without dues tests no barrier.
-    pub fn dues(&self) -> u64 {
+    /// Whether a debt of the cycle that goes on may have this line, as `Cycle::may_owe_since`.
+    pub fn may_owe_since(&self, line: usize) -> bool
+        ensures { (debt : DebtAt) → IsOwed self.now debt → debt.line ≡ line → result ≡ true }
+    {
         match self {
-            Watch::Marking(running) => running.cycle().dues(),
-            Watch::Ended(left) => left.dues,
-            Watch::Between(_) | Watch::Stopped => 0,
+            Watch::Marking(running) => running.cycle().may_owe_since(line),
+            Watch::Between(_) | Watch::Ended(_) | Watch::Stopped => false,
         }
     }
 
-    /// Whether the command just done at this line made a name due that wasn't pushed and hadn't come due by its mutator
-    /// before in the cycle. Then a reason may report the line: at most one line for each name and mutator.
-    pub fn has_new_debt_of_line(&self, line: usize) -> bool {
+    /// Whether a cycle goes on. If not, there are no debts. Takes no memory and constant time.
+    pub fn is_marking(&self) -> bool
+        ensures { result ≡ is_marking self.now }
+    {
         match self {
-            Watch::Marking(running) => running.cycle.has_new_debt_of_line(line),
+            Watch::Marking(_) => true,
             Watch::Between(_) | Watch::Ended(_) | Watch::Stopped => false,
         }
     }
@@ -260,12 +282,14 @@ impl Watch {
         mutator: u8,
         command: &Command,
         answer: Reply,
+        dues: &mut u64,
     ) -> Result<Option<Why>, NoMemory>
-        ensures { IfOk result (λ why. IsStep line self.old (event.Given mutator command.now answer) why self.new) }
+        ensures step { IfOk result (λ why. IsStep line self.old (event.Given mutator command.now answer) why self.new) }
+        ensures dues { IfOk result (λ why. CountsDuesIf line self.old (event.Given mutator command.now answer) why dues.old dues.new) }
     {
         match self {
             Watch::Between(world) => give(world, mutator, command, answer),
-            Watch::Marking(running) => running.do_command(line, mutator, command, answer),
+            Watch::Marking(running) => running.do_command(line, mutator, command, answer, dues),
             Watch::Ended(left) => give(&mut left.world, mutator, command, answer),
             Watch::Stopped => Ok(Some(Why::Misplaced)),
         }
@@ -278,8 +302,10 @@ impl Watch {
         line: usize,
         mutator: u8,
         commands: &[Command],
+        dues: &mut u64,
     ) -> Result<Option<Why>, NoMemory>
-        ensures { IfOk result (λ why. IsStep line self.old (event.Rows mutator commands.now) why self.new) }
+        ensures step { IfOk result (λ why. IsStep line self.old (event.Rows mutator commands.now) why self.new) }
+        ensures dues { IfOk result (λ why. CountsDuesIf line self.old (event.Rows mutator commands.now) why dues.old dues.new) }
     {
         if self.is_stopped() {
             return Ok(Some(Why::Misplaced));
@@ -287,7 +313,7 @@ impl Watch {
         if !self.has_mutator(mutator) {
             return Ok(Some(Why::CannotApply));
         }
-        self.act_all(line, mutator, commands)
+        self.act_all(line, mutator, commands, dues)
     }
 
     // Whether the heap has a mutator with this number.
@@ -325,11 +351,13 @@ impl Watch {
         line: usize,
         mutator: u8,
         commands: &[Command],
+        dues: &mut u64,
     ) -> Result<Option<Why>, NoMemory>
-        ensures { IfOk result (λ why. AreActed line mutator commands.now self.old why self.new) }
+        ensures acted { IfOk result (λ why. AreActed line mutator commands.now self.old why self.new) }
+        ensures dues { IfOk result (λ why. CountsDuesIf line self.old (event.Rows mutator commands.now) why dues.old dues.new) }
     {
         for command in commands {
-            let why = self.act(line, mutator, command)?;
+            let why = self.act(line, mutator, command, dues)?;
             if why.is_some() {
                 return Ok(why);
             }
@@ -338,12 +366,19 @@ impl Watch {
     }
 
     // Does one of several commands in a line. If it can't be done, returns the reason and changes nothing.
-    fn act(&mut self, line: usize, mutator: u8, command: &Command) -> Result<Option<Why>, NoMemory>
-        ensures { IfOk result (λ why. IsAct line mutator command.now self.old why self.new) }
+    fn act(
+        &mut self,
+        line: usize,
+        mutator: u8,
+        command: &Command,
+        dues: &mut u64,
+    ) -> Result<Option<Why>, NoMemory>
+        ensures act { IfOk result (λ why. IsAct line mutator command.now self.old why self.new) }
+        ensures dues { IfOk result (λ why. AddsDuesIf self.old mutator command.now why dues.old dues.new) }
     {
         match self {
             Watch::Between(world) => act(world, mutator, command),
-            Watch::Marking(running) => running.act(line, mutator, command),
+            Watch::Marking(running) => running.act(line, mutator, command, dues),
             Watch::Ended(left) => act(&mut left.world, mutator, command),
             Watch::Stopped => Ok(Some(Why::Misplaced)),
         }

@@ -10,7 +10,7 @@
 //!
 //! Easy to get wrong: a program at its end gives no command in a later round either. Its state doesn't change any more.
 ghost use Rattle.std.specs.Prelude.{IfOk};
-ghost use Rattle.nmgc_cycle.specs.Programs.{HasNoCommands, IsRunOfPrograms, MayRun};
+ghost use Rattle.nmgc_cycle.specs.Programs.{GaveSome, HasNoCommands, IsRunOfPrograms, MayRun};
 
 use crate::{Collector, StopEnd};
 use nmgc_journal::{End, Report};
@@ -74,8 +74,9 @@ impl Collector {
     /// that program k took, in order. The report ends with `Done` if every program is at its end. It ends with `HeapFull`
     /// exactly if a full cycle at the last stop left fewer segments free than the reserve, and some command waits.
     ///
-    /// The programs stay the caller's, also after `NoMemory`: each is in the state in which it took its last reply. Requires a
-    /// configuration within the limits of version 3, one to `MAKERS` valid programs, and few enough commands of each.
+    /// The programs stay the caller's. Even after `NoMemory` each is in the state in which it took its last reply, and gave at
+    /// most its own bound of commands (clause `gave`). Requires a configuration within the limits of version 3, one to `MAKERS`
+    /// valid programs, and few enough commands of each.
     pub fn run_programs<'b, R: Threads + Sync, P: Program, G: Gate>(
         alloc: Global,
         rt: &R,
@@ -84,7 +85,8 @@ impl Collector {
         gate: &G,
     ) -> Result<Report, NoMemory>
         requires { MayRun P.words P.most P.valid config.now programs.old }
-        ensures { IfOk result (λ report. IsRunOfPrograms P.next P.steps P.words P.most P.valid config.now programs.old programs.new report) }
+        ensures run { IfOk result (λ report. IsRunOfPrograms P.next P.steps P.words P.most P.valid config.now programs.old programs.new report) }
+        ensures gave { GaveSome P.next P.steps P.words P.most P.valid programs.old programs.new }
     {
         let began: Witness<&'b [P]> = Witness::of::<&[P], AtBeginning<P>>(&&*programs);
         let empty = without_commands(alloc, config, programs.len())?;

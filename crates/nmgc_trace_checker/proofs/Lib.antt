@@ -10,6 +10,7 @@ mod LineWords
 mod Markers
 mod Noted
 mod Outputs
+mod Owing
 mod Readings
 mod Sayings
 mod Takes

@@ -1,7 +1,10 @@
 -- A trace that is read line by line: the lines read so far are the lines that the bytes say, with the progress after them.
 use Rattle.std.proofs.lemmas.List.{take_at}
 use Rattle.nmgc_trace_checker.proofs.Vocabulary.{HasTried, IsNoted, IsSinceIn, AreLinesOf, AreMarkedLines, IsFault, IsFaultAfter, IsHeardUpTo, IsMarked, IsMarkedOf, IsOutcome, IsSince, IsTextAt, IsTooLong, IsWatchedBy, happened_of, head_texts, is_refused, is_refused_there, no_counts, ok_to, oks, with_line, with_lines, Comes, EndsAtLine, report_of, AreSaid, IsNextLine, Says, SaysLine, ahead, texts_of, IsVerdictAfter, refusal_of, Line, Progress, TraceFault, Begun, Refusal, Report, Answer, DueLine, TraceChecker, Counts, Meaning, Verdict, AppendsFront, nothing, head_of, Bool, Err, List, None, Ok, Option, Result, Some, [], ap, append_assoc, arith, codes, false, inl, inr, length, refl, string_bytes, subst, sym, take, true, ℕ, ◌++◌, ◌+◌, ◌-◌, ◌^◌, ◌∙◌, ◌∷◌, ◌≡◌, ◌≤◌, and_parts, false≢true, flat_map_more, length-append, bytes_eq-Decides, Appends, option_map, strip_last, Contains, IfErr, IfSome, IsErrAnd, ◌&&◌, bytes_eq}
-use Rattle.nmgc_trace_checker.specs.Outcomes.{IsWatched}
+use Rattle.nmgc_trace_checker.specs.{Notes.AreKept, Notes.HasLine, Notes.IsOwedIn, Notes.IsTextOf, Outcomes.IsWatched, Reports.AddsOf, Reports.ComeDue, Reports.Happens, Reports.IsRefusal}
+use Rattle.nmgc_barrier_checker.specs.declared.event.Why.TheVariants as why
+use Rattle.nmgc_trace_checker.specs.declared.report.Refusal.TheVariants as refusal
+use Rattle.nmgc_trace_checker.proofs.Owing.{of_line}
 use Rattle.nmgc_barrier_checker.specs.declared.watch.Watch.TheVariants as watch
 use Rattle.nmgc_trace_checker.specs.declared.line.Line.TheVariants as line
 use Rattle.nmgc_trace_checker.specs.declared.progress.Progress.TheVariants as progress
@@ -46,7 +49,9 @@ pub record SoFar (known : Option (List ℕ)) (is_asked : Bool) (n : ℕ) (checke
   pub comes : Comes 1 begun.Nothing (meaning.Blank ∷ lines) checker.begun
   pub said_is : said ≡ oks is_asked texts
   pub counts_are : checker.counts ≡ with_lines no_counts lines
+  pub dues_are : ComeDue 1 begun.Nothing (meaning.Blank ∷ lines) 0 checker.begun checker.dues
   pub kept : (line : DueLine) → Contains checker.due_lines.items line → IsTextAt texts line.number (string_bytes line.text)
+  pub debts : AreKept checker.begun checker.due_lines.items
 
 -- the lines so far, and their answers as a sink took them; its count of faults didn't fall
 pub record Answered (known : Option (List ℕ)) (is_asked : Bool) (n : ℕ) (checker : TraceChecker) (now a b : Option (List ℕ)) (before after : ℕ) : Type 0 where
@@ -60,8 +65,8 @@ no_front None = tt
 no_front (Some all) = (all, refl, refl)
 
 pub after_the_head : (known : Option (List ℕ)) (is_asked : Bool) (checker : TraceChecker) (a : Option (List ℕ)) (before : ℕ) →
-    checker.begun ≡ begun.Nothing → checker.counts ≡ no_counts → checker.due_lines.items ≡ [] → Answered known is_asked 2 checker known a a before before
-after_the_head known is_asked checker a before begins counts none = record {
+    checker.begun ≡ begun.Nothing → checker.counts ≡ no_counts → checker.dues ≡ 0 → checker.due_lines.items ≡ [] → Answered known is_asked 2 checker known a a before before
+after_the_head known is_asked checker a before begins counts dues none = record {
   said = [];
   written = appends_nothing a;
   so_far = record {
@@ -73,7 +78,9 @@ after_the_head known is_asked checker a before begins counts none = record {
     comes = (begun.Nothing, refl, begins);
     said_is = refl;
     counts_are = counts;
+    dues_are = (begun.Nothing, 0, refl, refl, (begins, dues));
     kept = λ line is. absurd (nothing line (subst (λ (ls : List DueLine). Contains ls line) none is));
+    debts = λ debt o. absurd (subst (λ (p : Begun). IsOwedIn p debt) begins o);
   };
   later = omega arith;
 }
@@ -138,14 +145,34 @@ kept_more texts text n old new count were kept line is = elim (kept line is) [
   | inr now ↦ (texts, [], ap (λ (t : List ℕ). texts ++ t ∷ []) (sym now.1), now.0 ∙ count)
 ]
 
--- a text kept for a debt is the text of its line
-since_in : (texts : List (List ℕ)) (n : ℕ) (kept : List DueLine) (why : Refusal) (since : Option (List ℕ)) →
-    ((line : DueLine) → Contains kept line → IsTextAt texts line.number (string_bytes line.text)) → IsSinceIn kept why since →
-    IsSince texts (report.Refused n why) since
-since_in texts n kept why None are is = tt
-since_in texts n kept why (Some text) are is =
-    let k : IsTextAt texts is.1.number (string_bytes is.1.text) = are is.1 is.3 in
-    (n, is.0, ap (report.Refused n) is.2, (k.0, k.1, k.2 ∙ ap (λ (t : List ℕ). k.0 ++ t ∷ k.1) (sym is.5), sym is.4 ∙ k.3))
+-- a text kept for a debt is the text of its line, and it was kept
+text_of : (texts : List (List ℕ)) (kept : List DueLine) (n : ℕ) (since : Option (List ℕ)) →
+    ((line : DueLine) → Contains kept line → IsTextAt texts line.number (string_bytes line.text)) → HasLine kept n → IsTextOf kept n since →
+    (text : List ℕ) × (since ≡ Some text) × IsTextAt texts n text
+text_of texts kept n None are has is = absurd (is has)
+text_of texts kept n (Some text) are has is =
+    let k : IsTextAt texts is.0.number (string_bytes is.0.text) = are is.0 is.1 in
+    (text, refl, (k.0, k.1, k.2 ∙ ap (λ (t : List ℕ). k.0 ++ t ∷ k.1) (sym is.3), sym is.2 ∙ k.3))
+
+since_in : (texts : List (List ℕ)) (n : ℕ) (kept : List DueLine) (p : Begun) (t : Meaning) (r : Refusal) (since : Option (List ℕ)) →
+    ((line : DueLine) → Contains kept line → IsTextAt texts line.number (string_bytes line.text)) → AreKept p kept → IsRefusal p t r →
+    IsSinceIn kept r since → IsSince texts (report.Refused n r) since
+since_in texts n kept p t (refusal.Event (why.Due debt)) since are debts fact is =
+    text_of texts kept debt.line since are (debts debt (of_line debt p t fact)) is
+since_in texts n kept p t (refusal.Event y) since are debts fact is = is
+since_in texts n kept p t refusal.Unknown since are debts fact is = is
+since_in texts n kept p t refusal.Misplaced since are debts fact is = is
+
+-- one more line at the end, with the count of dues
+due_push : (n : ℕ) (p q r : Begun) (ts : List Meaning) (t : Meaning) (k before between after : ℕ) → k ≡ n + length ts → ComeDue n p ts before q between →
+    Happens k q t r → AddsOf k q t between after → ComeDue n p (ts ++ t ∷ []) before r after
+due_push n p q r [] t k before between after e c can adds =
+    let is : k ≡ n = omega arith in
+    let happens : Happens n p t r = subst (λ (b : Begun). Happens n b t r) c.0 (subst (λ (j : ℕ). Happens j q t r) is can) in
+    let here : AddsOf n p t between after = subst (λ (b : Begun). AddsOf n b t between after) c.0 (subst (λ (j : ℕ). AddsOf j q t between after) is adds) in
+    (r, after, happens, subst (λ (i : ℕ). AddsOf n p t i after) c.1 here, (refl, refl))
+due_push n p q r (x ∷ ts) t k before between after e c can adds =
+    (c.0, c.1, c.2, c.3, due_push (n + 1) c.0 q r ts t k c.1 between after (omega arith) c.4 can adds)
 
 -- one more line was read and tried
 module _ (known now next : Option (List ℕ)) (is_asked there : Bool) (n : ℕ) (old new : TraceChecker) (said read line : List ℕ)
@@ -174,19 +201,22 @@ module _ (known now next : Option (List ℕ)) (is_asked there : Bool) (n : ℕ) 
         comes = checkings.comes_push 1 begun.Nothing old.begun new.begun (meaning.Blank ∷ s.lines) h.line n (let c = s.count in omega arith) s.comes h.happens;
         said_is = ap (λ (l : List ℕ). l ++ ok_to is_asked line) s.said_is ∙ flat_map_more (ok_to is_asked) [] s.texts line;
         counts_are = h.counts_are ∙ ap (λ (c : Counts). with_line c h.line) s.counts_are ∙ sym (with_lines_push no_counts s.lines h.line);
+        dues_are = due_push 1 begun.Nothing old.begun new.begun (meaning.Blank ∷ s.lines) h.line n 0 old.dues new.dues (let c = s.count in omega arith)
+            s.dues_are h.happens h.dues_are;
         kept = kept_all None h;
+        debts = h.kept s.debts;
       }
 
-  pub known_refused : (refused : Option Refusal) (why : Refusal) (r : Report) (counts : Counts) (since : Option (List ℕ)) → refused ≡ Some why →
-      HasTried n line old refused new → r ≡ report.Refused n why → counts ≡ new.counts → IsSinceIn new.due_lines.items why since →
-      IsWatched [] known is_asked said r counts since
-  known_refused refused why r counts since some tried known_is same beside =
-      let h : HasTried n line old (Some why) new = subst (λ (o : Option Refusal). HasTried n line old o new) some tried in
+  pub known_refused : (refused : Option Refusal) (because : Refusal) (r : Report) (counts : Counts) (dues : ℕ) (since : Option (List ℕ)) →
+      refused ≡ Some because → HasTried n line old refused new → r ≡ report.Refused n because → counts ≡ new.counts → dues ≡ new.dues →
+      IsSinceIn new.due_lines.items because since → IsWatched [] known is_asked said r counts dues since
+  known_refused refused because r counts dues since some tried known_is same dues_same beside =
+      let h : HasTried n line old (Some because) new = subst (λ (o : Option Refusal). HasTried n line old o new) some tried in
       let as_many : length s.texts ≡ length s.lines = said_length s.texts s.lines s.says in
       let texts : List (List ℕ) = s.texts ++ line ∷ [] in
       let first : take (n - 2) texts ≡ s.texts = take_at s.texts (line ∷ []) (n - 2) (let c = s.count in omega (arith, as_many)) in
       let before : take (n - 2) (s.lines ++ h.line ∷ []) ≡ s.lines = take_at s.lines (h.line ∷ []) (n - 2) (let c = s.count in omega arith) in
-      let ends : EndsAtLine (meaning.Blank ∷ (s.lines ++ h.line ∷ [])) n why = record {
+      let ends : EndsAtLine (meaning.Blank ∷ (s.lines ++ h.line ∷ [])) n because = record {
         earlier = meaning.Blank ∷ s.lines;
         line = h.line;
         later = [];
@@ -196,16 +226,19 @@ module _ (known now next : Option (List ℕ)) (is_asked there : Bool) (n : ℕ) 
         comes = s.comes;
         refused = h.happens;
       } in
-      let by : IsWatchedBy texts is_asked said (report.Refused n why) counts since = record {
+      let by : IsWatchedBy texts is_asked said (report.Refused n because) counts dues since = record {
         lines = s.lines ++ h.line ∷ [];
         says = said_push s.texts s.lines line h.line s.says h.says;
         report_is = ends;
         whole = tt;
         said_is = s.said_is ∙ ap (oks is_asked) (sym first);
         counts_are = same ∙ h.counts_are ∙ s.counts_are ∙ ap (with_lines no_counts) (sym before);
-        since_is = since_in texts n new.due_lines.items why since (kept_all (Some why) h) beside;
+        last = old.begun;
+        dues_are = subst (λ (ls : List Meaning). ComeDue 1 begun.Nothing (meaning.Blank ∷ ls) 0 old.begun dues) (sym before)
+            (subst (λ (i : ℕ). ComeDue 1 begun.Nothing (meaning.Blank ∷ s.lines) 0 old.begun i) (sym (dues_same ∙ h.dues_are)) s.dues_are);
+        since_is = since_in texts n new.due_lines.items old.begun h.line because since (kept_all (Some because) h) (h.kept s.debts) h.happens beside;
       } in
-      subst (λ (x : Report). IsWatched [] known is_asked said x counts since) (sym known_is) (texts, lines_so_far known next texts front_more, by)
+      subst (λ (x : Report). IsWatched [] known is_asked said x counts dues since) (sym known_is) (texts, lines_so_far known next texts front_more, by)
 
 -- no line was refused
 none_refused : {A : Type 0} (p : Begun) (r : Report) (lines : List A) → r ≡ report_of p → happened_of r lines ≡ lines
@@ -216,6 +249,16 @@ none_refused p r lines e = ap (λ (x : Report). happened_of x lines) e ∙ by_st
     by_state (begun.Watching (watch.Between w)) = refl
     by_state q = refl
 
+none_since : (texts : List (List ℕ)) (p : Begun) (r : Report) (since : Option (List ℕ)) → r ≡ report_of p → since ≡ None → IsSince texts r since
+none_since texts p r since e none = subst (λ (x : Report). IsSince texts x since) (sym e) (by_state p)
+  where
+    by_state : (q : Begun) → IsSince texts (report_of q) since
+    by_state begun.Nothing = none
+    by_state (begun.Watching (watch.Between w)) = none
+    by_state (begun.Watching (watch.Marking h)) = none
+    by_state (begun.Watching (watch.Ended left)) = none
+    by_state (begun.Watching watch.Stopped) = none
+
 module _ (known now : Option (List ℕ)) (is_asked : Bool) (n : ℕ) (checker : TraceChecker) (said : List ℕ) (s : SoFar known is_asked n checker now said) where
   pub heard_up_to : IsHeardUpTo [] known is_asked said
   heard_up_to = inr (
@@ -225,9 +268,9 @@ module _ (known now : Option (List ℕ)) (is_asked : Bool) (n : ℕ) (checker : 
   )
 
   pub known_ended : (next : Option (List ℕ)) (there : Bool) (read : List ℕ) (answer : Answer) → there ≡ false → IsNextLine now next read there →
-      answer.report ≡ report_of checker.begun → answer.counts ≡ checker.counts → answer.since ≡ None →
-      IsWatched [] known is_asked said answer.report answer.counts (option_map string_bytes answer.since)
-  known_ended next there read answer over is known_is same none = (
+      answer.report ≡ report_of checker.begun → answer.counts ≡ checker.counts → answer.dues ≡ checker.dues → answer.since ≡ None →
+      IsWatched [] known is_asked said answer.report answer.counts answer.dues (option_map string_bytes answer.since)
+  known_ended next there read answer over is known_is same dues_same none = (
     s.texts,
     all_lines known now next s.texts read (is_refused answer.report) s.front (subst (IsNextLine now next read) over is),
     record {
@@ -237,7 +280,11 @@ module _ (known now : Option (List ℕ)) (is_asked : Bool) (n : ℕ) (checker : 
       whole = whole_report (meaning.Blank ∷ s.lines) checker.begun answer.report s.comes known_is;
       said_is = s.said_is ∙ ap (oks is_asked) (sym (none_refused checker.begun answer.report s.texts known_is));
       counts_are = same ∙ s.counts_are ∙ ap (with_lines no_counts) (sym (none_refused checker.begun answer.report s.lines known_is));
-      since_is = subst (λ o. IsSince s.texts answer.report (option_map string_bytes o)) (sym none) tt;
+      last = checker.begun;
+      dues_are = subst (λ (ls : List Meaning). ComeDue 1 begun.Nothing (meaning.Blank ∷ ls) 0 checker.begun answer.dues)
+          (sym (none_refused checker.begun answer.report s.lines known_is))
+          (subst (λ (i : ℕ). ComeDue 1 begun.Nothing (meaning.Blank ∷ s.lines) 0 checker.begun i) (sym dues_same) s.dues_are);
+      since_is = none_since s.texts checker.begun answer.report (option_map string_bytes answer.since) known_is (ap (option_map string_bytes) none);
     },
   )
 
@@ -395,7 +442,7 @@ module _ (old now : Option (List ℕ)) (is_there : Bool) (line : List ℕ) (is_a
   heard_after_head (inl none) = inl none
   heard_after_head (inr h) = inr (h.0, after_head old now is_there line h.0 true is head h.1, h.2)
 
-  pub outcome_watched : (answer : Answer) → IsWatched [] now is_asked said answer.report answer.counts (option_map string_bytes answer.since) →
+  pub outcome_watched : (answer : Answer) → IsWatched [] now is_asked said answer.report answer.counts answer.dues (option_map string_bytes answer.since) →
       IsOutcome old is_asked said (outcome.Watched answer)
   outcome_watched answer w = (w.0, after_head old now is_there line w.0 (is_refused answer.report) is head w.1, w.2)
 

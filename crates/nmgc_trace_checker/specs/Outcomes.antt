@@ -4,11 +4,10 @@
 use Rattle.std.specs.Prelude.{◌≡◌, ◌≢◌, ◌⊎◌, ◌≤◌, ◌+◌, ◌-◌, ◌^◌, ℕ, List, [], ◌∷◌, ◌++◌, length, take, codes, string_bytes, Option, Some, None, Bool, true, false, IfSome}
 use Rattle.std.specs.{IoError.error_kind, declared.io.ErrorKind.TheVariants.OutOfMemory, Io.KnownBytes.Appends, List.flat_map, Option.option_map}
 use Rattle.nmgc_io.specs.Text.{AppendsFront, next}
-use Rattle.nmgc_barrier_laws.specs.declared.debt.Debt.{Debt}
 use Rattle.nmgc_barrier_checker.specs.declared.event.Event.{Event}
 use Rattle.nmgc_barrier_checker.specs.declared.event.Event.TheVariants as event
 use Rattle.nmgc_barrier_checker.specs.declared.event.Why.TheVariants as why
-use Rattle.nmgc_trace_checker.specs.{declared.line.Line.Line, declared.meaning.Meaning.Meaning, declared.reading.Outcome.Outcome, declared.reading.TraceFault.TraceFault, declared.report.Begun.Begun, declared.report.Report.Report, declared.counts.Counts.Counts, declared.verdict.Verdict.Verdict, Kept.ListsKept, Reports.Comes, Reports.IsReport, Reports.is_whole, Said.texts_of, Said.ahead, Said.AreSaid, Said.Says, Said.SaysLine, Verdicts.IsVerdict, Verdicts.is_passed, Whole.IsWholeReport}
+use Rattle.nmgc_trace_checker.specs.{declared.line.Line.Line, declared.meaning.Meaning.Meaning, declared.reading.Outcome.Outcome, declared.reading.TraceFault.TraceFault, declared.report.Begun.Begun, declared.report.Report.Report, declared.counts.Counts.Counts, declared.verdict.Verdict.Verdict, Kept.ListsKept, Reports.ComeDue, Reports.Comes, Reports.IsReport, Reports.is_whole, Said.texts_of, Said.ahead, Said.AreSaid, Said.Says, Said.SaysLine, Verdicts.IsVerdict, Verdicts.is_passed, Whole.IsWholeReport}
 use Rattle.nmgc_trace_checker.specs.declared.meaning.Meaning.TheVariants as meaning
 use Rattle.nmgc_trace_checker.specs.declared.report.Begun.TheVariants as begun
 use Rattle.nmgc_trace_checker.specs.declared.report.Refusal.TheVariants as refusal
@@ -83,27 +82,30 @@ oks is_asked texts = flat_map (ok_to is_asked) texts
 abbrev pub IsTextAt : List (List ℕ) → ℕ → List ℕ → Type 0
 IsTextAt texts n text = (before : List (List ℕ)) × (after : List (List ℕ)) × (texts ≡ before ++ text ∷ after) × (n ≡ length before + 2)
 
--- the text beside a report, if there is one: a name is due, and this is the text of the line since which it is
+-- the text beside a report: if a name is due, the text of the line since which it is, and otherwise none
 abbrev pub IsSince : List (List ℕ) → Report → Option (List ℕ) → Type 0
-IsSince texts r None = Unit {0}
-IsSince texts r (Some text) = (n : ℕ) × (debt : Debt) × (r ≡ report.Refused n (refusal.Event (why.Due debt))) × IsTextAt texts debt.line text
+IsSince texts (report.Refused n (refusal.Event (why.Due debt))) since = (text : List ℕ) × (since ≡ Some text) × IsTextAt texts debt.line text
+IsSince texts r since = since ≡ None
 
 -- the answer to the lines that these texts say, with the answers while they came: only an `ok` for each empty line that
--- happened. The lines that happened are counted
-pub record IsWatchedBy (texts : List (List ℕ)) (is_asked : Bool) (said : List ℕ) (r : Report) (counts : Counts) (since : Option (List ℕ)) : Type 0 where
+-- happened. The lines that happened are counted, and how often a name came due in them
+pub record IsWatchedBy (texts : List (List ℕ)) (is_asked : Bool) (said : List ℕ) (r : Report) (counts : Counts) (dues : ℕ) (since : Option (List ℕ)) :
+    Type 0 where
   pub lines : List Meaning
   pub says : AreSaid Says texts lines []
   pub report_is : IsReport (meaning.Blank ∷ lines) r
   pub whole : IsWholeReport (meaning.Blank ∷ lines) r
   pub said_is : said ≡ oks is_asked (happened_of r texts)
   pub counts_are : counts ≡ with_lines no_counts (happened_of r lines)
+  pub last : Begun
+  pub dues_are : ComeDue 1 begun.Nothing (meaning.Blank ∷ happened_of r lines) 0 last dues
   pub since_is : IsSince texts r since
 
 -- the answer to a trace of format 2, with the answers while it came. If the bytes are known, its lines are the lines of these
 -- bytes, after this head
-abbrev pub IsWatched : List (List ℕ) → Option (List ℕ) → Bool → List ℕ → Report → Counts → Option (List ℕ) → Type 0
-IsWatched head known is_asked said r counts since = (texts : List (List ℕ)) × AreLinesOf known (head ++ texts) (is_refused r) ×
-    IsWatchedBy texts is_asked said r counts since
+abbrev pub IsWatched : List (List ℕ) → Option (List ℕ) → Bool → List ℕ → Report → Counts → ℕ → Option (List ℕ) → Type 0
+IsWatched head known is_asked said r counts dues since = (texts : List (List ℕ)) × AreLinesOf known (head ++ texts) (is_refused r) ×
+    IsWatchedBy texts is_asked said r counts dues since
 
 -- the answers to lines that happened: these texts say lines, and each can happen after the lines before it
 pub record AreAnswers (texts : List (List ℕ)) (is_asked : Bool) (said : List ℕ) : Type 0 where
@@ -143,7 +145,7 @@ abbrev pub IsOutcome : Option (List ℕ) → Bool → List ℕ → Outcome → T
 IsOutcome known is_asked said (outcome.Marked v) = (lines : List Line) × IfSome known (λ bytes. IsMarkedOf bytes lines v) × IsVerdict lines v ×
     ListsKept lines v × (said ≡ [])
 IsOutcome known is_asked said (outcome.Watched answer) =
-    IsWatched head_texts known is_asked said answer.report answer.counts (option_map string_bytes answer.since)
+    IsWatched head_texts known is_asked said answer.report answer.counts answer.dues (option_map string_bytes answer.since)
 
 -- whether a trace passes: each line can happen, and the trace is whole or, in format 1, marking has ended
 abbrev pub is_passed_of : Outcome → Bool

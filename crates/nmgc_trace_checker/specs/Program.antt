@@ -11,7 +11,8 @@
 --   `IsReport` or `IsVerdict` it is the number of the first line that can't happen.
 -- - The output on standard error: nothing is written there unless the output failed (`silent` of `Ran`).
 -- - Always `no memory`: no clause refuses it. Always `can't be read`: none, since the kit's readers count no faults. Tests do.
--- - Another number of dues, no text beside the line since which a name is due, or other words of an error: rows refuse these.
+-- - Another number of dues, or another reason of several: `dues_are` of `IsWatchedBy`, and `IsWhy` has one reason at most.
+-- - No text beside the line since which a name is due, or another line's: `IsSince`. Other words of an error: rows refuse these.
 use Rattle.std.specs.Prelude.{◌≡◌, ◌⊎◌, ◌≤◌, ℕ, List, [], ◌∷◌, ◌++◌, map, codes, string_bytes, Option, Result, Ok, Err, Bool, Contains, if◌then◌else◌}
 use Rattle.std.specs.{Str.bytes_eq, Io.KnownBytes.Appends}
 use Rattle.nmgc_io.specs.Text.{AppendsFront}

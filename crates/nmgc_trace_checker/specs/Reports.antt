@@ -2,7 +2,7 @@
 use Rattle.std.specs.Prelude.{◌≡◌, ◌≤◌, ◌+◌, ℕ, List, [], ◌∷◌, ◌++◌, length, Option, Some, None, Bool, true, false}
 use Rattle.nmgc_limits.specs.declared.mutators.TheConstants.{MAKERS}
 use Rattle.nmgc_world_spec.specs.World.{new_world}
-use Rattle.nmgc_barrier_checker.specs.{declared.event.Event.Event, declared.watch.Watch.Watch, Watching.Can, Watching.IsWhy}
+use Rattle.nmgc_barrier_checker.specs.{declared.event.Event.Event, declared.watch.Watch.Watch, CameDue.CountsDues, Watching.Can, Watching.IsWhy}
 use Rattle.nmgc_barrier_checker.specs.declared.watch.Watch.TheVariants as watch
 use Rattle.nmgc_trace_checker.specs.{declared.meaning.Meaning.Meaning, declared.report.Begun.Begun, declared.report.Refusal.Refusal, declared.report.Report.Report}
 use Rattle.nmgc_trace_checker.specs.declared.meaning.Meaning.TheVariants as meaning
@@ -59,6 +59,17 @@ IsHappening n p t (Some r) next = IsRefusal p t r
 abbrev pub Comes : ℕ → Begun → List Meaning → Begun → Type 0
 Comes n p [] last = last ≡ p
 Comes n p (t ∷ ts) last = (next : Begun) × Happens n p t next × Comes (n + 1) next ts last
+
+-- the count of dues after a line that can happen: an event may add to it
+abbrev pub AddsOf : ℕ → Begun → Meaning → ℕ → ℕ → Type 0
+AddsOf n (begun.Watching p) (meaning.Event e) before after = CountsDues n p e before after
+AddsOf n p t before after = after ≡ before
+
+-- lines that can happen in order, as `Comes`, with the counts of dues before and after them: how often a name came due
+abbrev pub ComeDue : ℕ → Begun → List Meaning → ℕ → Begun → ℕ → Type 0
+ComeDue n p [] before last after = (last ≡ p) × (after ≡ before)
+ComeDue n p (t ∷ ts) before last after = (next : Begun) × (count : ℕ) × Happens n p t next × AddsOf n p t before count ×
+    ComeDue (n + 1) next ts count last after
 
 -- a refused trace: the lines before line `n` (from 1) can happen, in order, and line `n` can't, for a reason that is a fact
 pub record EndsAtLine (lines : List Meaning) (n : ℕ) (r : Refusal) : Type 0 where

@@ -1,12 +1,12 @@
 //! The state of a trace of format 2 as its lines come. A line is judged as it comes, and its effect is kept. Its text is kept
 //! if a later refusal may report it: it made a name due that wasn't pushed and hadn't come due by its mutator before in this
-//! cycle. So there is at most one text for each name and mutator.
-ghost use Rattle.std.specs.Prelude.{◌≡◌, ◌++◌, [], string_bytes, None, Contains, IfOk, OnOk};
+//! cycle. So there is at most one text for each name and mutator, and the line of each debt is kept. Outside of a cycle there
+//! are no debts, and no text is kept.
+ghost use Rattle.std.specs.Prelude.{◌≡◌, ◌++◌, [], true, string_bytes, None, Contains, IfOk, OnOk};
 ghost use Rattle.std.specs.Option.{option_map};
-ghost use Rattle.nmgc_trace_checker.specs.{Notes.HasTried, Notes.IsNoted, Notes.IsSinceIn, Outcomes.no_counts, Outcomes.with_line, Reports.report_of, Sentences.report_text, declared.checker.DueLine.DueLine as DueLineAt};
-ghost use Rattle.nmgc_barrier_checker.specs.declared.event.Why.TheVariants as why_is;
+ghost use Rattle.nmgc_trace_checker.specs.{Notes.HasKept, Notes.HasTried, Notes.IsNoted, Notes.IsSinceIn, Notes.IsTextOf, Notes.IsOwedIn, Notes.KeepsLines, Outcomes.no_counts, Outcomes.with_line, Reports.report_of, Sentences.report_text, declared.checker.DueLine.DueLine as DueLineAt};
+ghost use Rattle.nmgc_barrier_laws.specs.declared.debt.Debt.{Debt as DebtAt};
 ghost use Rattle.nmgc_trace_checker.specs.declared.report.Begun.TheVariants as begun;
-ghost use Rattle.nmgc_trace_checker.specs.declared.report.Refusal.TheVariants as refusal_is;
 ghost use Rattle.nmgc_trace_checker.specs.declared.report.Report.TheVariants as report;
 
 use crate::counts::{Counts, push_counts};
@@ -24,7 +24,6 @@ use std::alloc::Global;
 pub struct TraceChecker {
     begun: Begun,
     counts: Counts,
-    all_dues: u64,
     dues: u64,
     due_lines: Vec<DueLine>,
 }
@@ -41,7 +40,7 @@ struct DueLine {
 pub struct Answer {
     pub report: Report,
     pub counts: Counts,
-    /// Names that came due, each as often as it came due (`Cycle::dues`).
+    /// How often a name came due: the number of names that each command made due, in all. At most 2^64 - 1.
     pub dues: u64,
     pub since: Option<String>,
 }
@@ -51,6 +50,7 @@ impl TraceChecker {
     pub fn new(alloc: Global) -> Self
         ensures begun { result.begun ≡ begun.Nothing }
         ensures counts { result.counts ≡ no_counts }
+        ensures dues { result.dues ≡ 0 }
         ensures lines { result.due_lines.items ≡ [] }
     {
         TraceChecker {
@@ -60,7 +60,6 @@ impl TraceChecker {
                 commands: 0,
                 pushes: 0,
             },
-            all_dues: 0,
             dues: 0,
             due_lines: Vec::new(alloc),
         }
@@ -78,16 +77,18 @@ impl TraceChecker {
         ensures { IfOk result (λ refused. HasTried number text.now self.old refused self.new) }
     {
         let meaning = meaning_of(alloc, text)?;
-        let refused = do_line(&mut self.begun, alloc, number, &meaning)?;
+        let mut dues = self.dues;
+        let refused = do_line(&mut self.begun, alloc, number, &meaning, &mut dues)?;
         if let Some(refusal) = refused {
             return Ok(Some(refusal));
         }
+        self.dues = dues;
         self.note(alloc, number, text, &meaning)?;
         Ok(None)
     }
 
-    // Counts a line that happened, and keeps its text if it may be reported. Drops all texts first, if the cycle has no dues.
-    #[tactic(auto, using(crate::proofs::Noted::noted_after))]
+    // Counts a line that happened, and keeps its text if it may be reported. Drops all texts if no cycle goes on.
+    #[tactic(auto, using(crate::proofs::Noted::noted_after, crate::proofs::Noted::keeps_after))]
     fn note(
         &mut self,
         alloc: Global,
@@ -97,15 +98,14 @@ impl TraceChecker {
     ) -> Result<(), NoMemory>
         ensures begun { self.new.begun ≡ self.old.begun }
         ensures counts { self.new.counts ≡ with_line self.old.counts meaning.now }
+        ensures dues { self.new.dues ≡ self.old.dues }
         ensures lines { OnOk result (IsNoted number text.now self.old.due_lines.items self.new.due_lines.items) }
+        ensures kept { OnOk result (KeepsLines number self.old.begun self.old.due_lines.items self.new.due_lines.items) }
     {
-        let before = self.dues;
-        self.dues = dues_of(&self.begun);
-        let dues = self.dues.saturating_sub(before);
-        self.all_dues = self.all_dues.saturating_add(dues);
         self.counts.add(meaning);
-        let is_due = dues > 0 && may_be_reported(&self.begun, number);
-        forget_if(&mut self.due_lines, self.dues == 0);
+        let goes_on = is_marking(&self.begun);
+        let is_due = may_be_reported(&self.begun, number);
+        forget_unless(&mut self.due_lines, goes_on);
         keep_if(alloc, &mut self.due_lines, is_due, number, text)
     }
 
@@ -113,11 +113,12 @@ impl TraceChecker {
     pub fn end_answer(self) -> Answer
         ensures report { result.report ≡ report_of self.begun }
         ensures counts { result.counts ≡ self.counts }
+        ensures dues { result.dues ≡ self.dues }
         ensures since { result.since ≡ None }
     {
         let report = report_of(&self.begun);
         let counts = self.counts;
-        let dues = self.all_dues;
+        let dues = self.dues;
         drop(self);
         Answer {
             report,
@@ -136,11 +137,12 @@ impl TraceChecker {
     ) -> Result<Answer, NoMemory>
         ensures report { IfOk result (λ answer. answer.report ≡ report.Refused number refusal) }
         ensures counts { IfOk result (λ answer. answer.counts ≡ self.counts) }
+        ensures dues { IfOk result (λ answer. answer.dues ≡ self.dues) }
         ensures since { IfOk result (λ answer. IsSinceIn self.due_lines.items refusal (option_map string_bytes answer.since)) }
     {
         let since = self.due_line_text(alloc, refusal);
         let counts = self.counts;
-        let dues = self.all_dues;
+        let dues = self.dues;
         drop(self);
         Ok(Answer {
             report: Report::Refused(number, refusal),
@@ -157,7 +159,18 @@ impl TraceChecker {
         match refusal {
             Refusal::Event(why) => match why {
                 Why::Due(debt) => text_since(alloc, self.due_lines.as_slice(), debt),
-                _ => Ok(None),
+                Why::Misplaced
+                | Why::CannotApply
+                | Why::Answer(_)
+                | Why::NoSuchName(_)
+                | Why::NotMarked(_)
+                | Why::Untaken(_)
+                | Why::Unscanned(_)
+                | Why::NotPushed(_)
+                | Why::NotOld(_)
+                | Why::NotDead(_)
+                | Why::NotListed(_)
+                | Why::Needed(_) => Ok(None),
             },
             Refusal::Unknown | Refusal::Misplaced => Ok(None),
         }
@@ -166,7 +179,7 @@ impl TraceChecker {
 
 // Returns the text kept of the line since which a debt's name is due, if it was kept.
 fn text_since(alloc: Global, lines: &[DueLine], debt: Debt) -> Result<Option<String>, NoMemory>
-    ensures { IfOk result (λ since. IsSinceIn lines.now (refusal_is.Event (why_is.Due debt)) (option_map string_bytes since)) }
+    ensures { IfOk result (λ since. IsTextOf lines.now debt.line (option_map string_bytes since)) }
 {
     for line in lines {
         if line.number == debt.line {
@@ -177,18 +190,19 @@ fn text_since(alloc: Global, lines: &[DueLine], debt: Debt) -> Result<Option<Str
     Ok(None)
 }
 
-// Removes all lines, or none.
+// Removes all lines, unless a cycle goes on.
 #[tactic(auto, using(crate::proofs::Noted::forgotten))]
-fn forget_if(lines: &mut Vec<DueLine>, is_over: bool)
-    ensures { (line : DueLineAt) → Contains lines.new.items line → Contains lines.old.items line }
+fn forget_unless(lines: &mut Vec<DueLine>, goes_on: bool)
+    ensures fewer { (line : DueLineAt) → Contains lines.new.items line → Contains lines.old.items line }
+    ensures same { goes_on ≡ true → lines.new.items ≡ lines.old.items }
 {
-    if is_over {
+    if !goes_on {
         lines.clear();
     }
 }
 
 // Adds a line with its text, or none.
-#[tactic(auto, using(crate::proofs::Noted::noted_same, crate::proofs::Noted::noted_push))]
+#[tactic(auto, using(crate::proofs::Noted::noted_same, crate::proofs::Noted::noted_push, crate::proofs::Noted::kept_push))]
 fn keep_if(
     alloc: Global,
     lines: &mut Vec<DueLine>,
@@ -196,7 +210,8 @@ fn keep_if(
     number: usize,
     text: &str,
 ) -> Result<(), NoMemory>
-    ensures { OnOk result (IsNoted number text.now lines.old.items lines.new.items) }
+    ensures noted { OnOk result (IsNoted number text.now lines.old.items lines.new.items) }
+    ensures kept { OnOk result (HasKept is_due number lines.old.items lines.new.items) }
 {
     if !is_due {
         return Ok(());
@@ -206,19 +221,23 @@ fn keep_if(
     Ok(())
 }
 
-// Returns the number of dues of the cycle that goes on, or of the last cycle; 0 without a cycle or after the stop.
-fn dues_of(begun: &Begun) -> u64 {
+// Whether a cycle goes on. If not, there are no debts.
+fn is_marking(begun: &Begun) -> bool
+    ensures { (debt : DebtAt) → IsOwedIn begun.now debt → result ≡ true }
+{
     match begun {
-        Begun::Nothing => 0,
-        Begun::Watching(watch) => watch.dues(),
+        Begun::Nothing => false,
+        Begun::Watching(watch) => watch.is_marking(),
     }
 }
 
 // Whether the last line so far, `number`, may later be reported as the line since which a name is due.
-fn may_be_reported(begun: &Begun, number: usize) -> bool {
+fn may_be_reported(begun: &Begun, number: usize) -> bool
+    ensures { (debt : DebtAt) → IsOwedIn begun.now debt → debt.line ≡ number → result ≡ true }
+{
     match begun {
         Begun::Nothing => false,
-        Begun::Watching(watch) => watch.has_new_debt_of_line(number),
+        Begun::Watching(watch) => watch.may_owe_since(number),
     }
 }
 

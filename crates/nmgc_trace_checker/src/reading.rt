@@ -102,8 +102,7 @@ impl From<io::Error> for TraceFault {
 /// If `is_asked`, each empty line of a trace of format 2 is answered by `ok` once all lines before it have happened, and no
 /// other line is. Takes memory for the trace's heap, its longest line, and the commands of its longest copy or fill. A trace of
 /// format 2 also takes memory for lines that made names due in the current cycle, at most one for each name and mutator. An
-/// error is the reason why there is no outcome; `TooLong` means 2^64 - 2 lines or more. No clause gives `Io` its cause. How
-/// often a name came due is tested, and that the text of the line since which it is due is there.
+/// error is the reason why there is no outcome; `TooLong` means 2^64 - 2 lines or more. No clause gives `Io` its cause.
 pub fn outcome_of<R: BufRead, K: Sink>(
     alloc: Global,
     reader: &mut R,
@@ -166,7 +165,7 @@ fn judge_watched<R: BufRead, K: Sink>(
     is_asked: bool,
 ) -> Result<Answer, TraceFault>
     ensures lines { IfOk result (λ answer. (said : List ℕ) × Appends (K.taken answers.old) (K.taken answers.new) said ×
-        IsWatched [] (R.remaining reader.old) is_asked said answer.report answer.counts (option_map string_bytes answer.since)) }
+        IsWatched [] (R.remaining reader.old) is_asked said answer.report answer.counts answer.dues (option_map string_bytes answer.since)) }
     ensures fault { IfErr result (λ fault. (said : List ℕ) × IsHeardUpTo [] (R.remaining reader.old) is_asked said ×
         IsFaultAfter (IsTooLong (ahead true (string_bytes text)) (R.remaining reader.old)) (K.taken answers.old) (K.taken answers.new)
         (Rose (K.faults answers.old) (K.faults answers.new)) said fault) }

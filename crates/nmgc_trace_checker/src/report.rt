@@ -1,6 +1,6 @@
 //! The result for a trace of format 2: the first line that can't happen, with the reason, or whether the trace is whole.
 ghost use Rattle.std.specs.Prelude.{List, ◌≡◌, IfOk};
-ghost use Rattle.nmgc_trace_checker.specs.{Reports.IsHappening, Reports.report_of, Reports.is_whole};
+ghost use Rattle.nmgc_trace_checker.specs.{Notes.AddsOfIf, Reports.IsHappening, Reports.report_of, Reports.is_whole};
 ghost use Rattle.nmgc_trace_checker.specs.declared.meaning.Meaning.TheVariants as known_is;
 
 use crate::meaning::Meaning;
@@ -56,14 +56,17 @@ impl Report {
     }
 }
 
-/// Does the line with this meaning and returns `None`, or returns why it can't happen. After a refusal the state may be any.
+/// Does the line with this meaning and returns `None`, or returns why it can't happen. If the line happened, adds the number
+/// of names that its commands made due to `dues`. After a refusal the state may be any.
 pub(crate) fn do_line(
     begun: &mut Begun,
     alloc: Global,
     line: usize,
     meaning: &Meaning,
+    dues: &mut u64,
 ) -> Result<Option<Refusal>, NoMemory>
-    ensures { IfOk result (λ refused. IsHappening line begun.old meaning.now refused begun.new) }
+    ensures happening { IfOk result (λ refused. IsHappening line begun.old meaning.now refused begun.new) }
+    ensures dues { IfOk result (λ refused. AddsOfIf line begun.old meaning.now refused dues.old dues.new) }
 {
     match meaning {
         Meaning::Blank => Ok(None),
@@ -71,7 +74,7 @@ pub(crate) fn do_line(
         Meaning::Mutators(count) => start(begun, alloc, *count),
         Meaning::Event(event) => match begun {
             Begun::Nothing => Ok(Some(Refusal::Misplaced)),
-            Begun::Watching(watch) => match watch.step(line, event)? {
+            Begun::Watching(watch) => match watch.step(line, event, dues)? {
                 Some(why) => Ok(Some(Refusal::Event(why))),
                 None => Ok(None),
             },

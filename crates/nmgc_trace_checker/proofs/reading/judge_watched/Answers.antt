@@ -5,7 +5,7 @@ use Rattle.nmgc_trace_checker.proofs.reading.judge_watched.Goals as goal
 pub loop-number-init : goal.loop-number-init
 loop-number-init g c =
     after_the_head (g.R.Read.remaining c.args.reader.now) c.args.is_asked c.new-checker.result (g.K.Sink.taken c.args.answers.now)
-    (g.K.Sink.faults c.args.answers.now) c.new-checker.ensures.begun c.new-checker.ensures.counts c.new-checker.ensures.lines
+    (g.K.Sink.faults c.args.answers.now) c.new-checker.ensures.begun c.new-checker.ensures.counts c.new-checker.ensures.dues c.new-checker.ensures.lines
 
 pub returns-then-not-branch-clause-lines : goal.returns-then-not-branch-clause-lines
 returns-then-not-branch-clause-lines g c =
@@ -14,7 +14,7 @@ returns-then-not-branch-clause-lines g c =
       i.written,
       known_ended (g.R.Read.remaining c.args.reader.now) (g.R.Read.remaining c.loop-number.reader) c.args.is_asked c.loop-number.number
           c.loop-number.checker i.said i.so_far (g.R.Read.remaining c.next_line.new.reader) _ (string_bytes c.next_line.new.text) c.end_answer.result
-          c.if-not-branch.true c.in_ok-next_line.ensures c.end_answer.ensures.report c.end_answer.ensures.counts c.end_answer.ensures.since,
+          c.if-not-branch.true c.in_ok-next_line.ensures c.end_answer.ensures.report c.end_answer.ensures.counts c.end_answer.ensures.dues c.end_answer.ensures.since,
     )
 
 pub returns-in-Some-clause-lines : goal.returns-in-Some-clause-lines
@@ -28,7 +28,8 @@ returns-in-Some-clause-lines g c =
       known_refused (g.R.Read.remaining c.args.reader.now) (g.R.Read.remaining c.loop-number.reader) (g.R.Read.remaining c.next_line.new.reader)
           c.args.is_asked _ c.loop-number.number c.loop-number.checker c.judge_line.new.self i.said (string_bytes c.next_line.new.text)
           c.without_end-line.result.now i.so_far c.if-not-branch.false c.in_ok-next_line.ensures text _ c.in-Some.refusal c.in_ok-answer.answer.report
-          c.in_ok-answer.answer.counts (option_map string_bytes c.in_ok-answer.answer.since) c.in-Some.is c.in_ok-refused.ensures a.report a.counts a.since,
+          c.in_ok-answer.answer.counts c.in_ok-answer.answer.dues (option_map string_bytes c.in_ok-answer.answer.since) c.in-Some.is
+          c.in_ok-refused.ensures a.report a.counts a.dues a.since,
     )
 
 pub loop-number-preserved : goal.loop-number-preserved

@@ -11,6 +11,7 @@ returns c =
           (length-set c.items_mut.result.now c.args.mutator c.forget_paid.new.debts ∙ ap (λ (l : List (List Debt)). length l) c.items_mut.ensures.value) ∙
           ap (λ (l : List (List Debt)). slice_set l c.args.mutator c.forget_paid.new.debts) c.items_mut.ensures.value;
       names = refl;
+      newest = refl;
       same = c.forget_paid.ensures.same ∙ ap (λ (l : List Debt). unpaid c.args.marks.now l) was;
       fewer = λ d x. subst (λ (l : List Debt). Contains l d) was (c.forget_paid.ensures.fewer d x);
       first = c.forget_paid.ensures.first;

@@ -1,4 +1,4 @@
-use Rattle.nmgc_barrier_checker.proofs.{Vocabulary.◌<◌, Vocabulary.◌∙◌, Vocabulary.ℕ, Vocabulary.refl, Vocabulary.sym, Vocabulary.subst, Vocabulary.inl, Vocabulary.inr, Vocabulary.false≢true, Vocabulary.none_first, AccountLaws.some_own, AccountLaws.none_own, AccountLaws.forgotten_accounts, AccountLaws.forgotten_count, AccountLaws.forgotten_same, CycleLaws.seen_same, CycleLaws.with_accounts, cycle.Cycle.reason_against_settle.Goals.in-Some, cycle.Cycle.reason_against_settle.Goals.in-None}
+use Rattle.nmgc_barrier_checker.proofs.{Vocabulary.◌<◌, Vocabulary.◌∙◌, Vocabulary.ℕ, Vocabulary.refl, Vocabulary.sym, Vocabulary.subst, Vocabulary.inl, Vocabulary.inr, Vocabulary.false≢true, Vocabulary.Option, Vocabulary.Debt, Vocabulary.IsLeastIn, Vocabulary.queue_of, Vocabulary.unpaid, AccountLaws.some_own, AccountLaws.none_own, AccountLaws.forgotten_accounts, AccountLaws.forgotten_count, AccountLaws.forgotten_same, CycleLaws.seen_same, CycleLaws.with_accounts, cycle.Cycle.reason_against_settle.Goals.in-Some, cycle.Cycle.reason_against_settle.Goals.in-None}
 use Rattle.nmgc_barrier_checker.proofs.cycle.Cycle.reason_against_settle.Goals as goal
 
 pub returns-then-not-has_mutator-clause-settle : goal.returns-then-not-has_mutator-clause-settle
@@ -21,13 +21,15 @@ pub returns-clause-settle : goal.returns-clause-settle
 returns-clause-settle c = elim c.match-first_unpaid.branch [
   | in-Some w ↦
       let p = some_own c.self.inside.snapshot c.self.inside.remembered.set c.args.mutator c.self.inside.accounts c.self.invariant.accounts
-      w.in-Some.debt (sym c.first_unpaid.ensures.first ∙ w.in-Some.is) in
-      rw (w.result-is, ← c.self.view_is) (inl (w.in-Some.debt, refl, p.0, p.1))
+      w.in-Some.debt (subst (λ (o : Option Debt). IsLeastIn (unpaid c.self.inside.remembered.set (queue_of c.self.inside.accounts.debts c.args.mutator)) o)
+      w.in-Some.is c.first_unpaid.ensures.first) in
+      rw (w.result-is, ← c.self.view_is) (inl (w.in-Some.debt, refl, p, c.has_mutator.ensures.0 c.if-not-has_mutator.false))
   | in-None w ↦
       rw (w.result-is, ← c.self.view_is) (
         c.has_mutator.ensures.0 c.if-not-has_mutator.false,
         none_own c.self.inside.snapshot c.self.inside.remembered.set c.args.mutator c.self.inside.accounts c.self.invariant.accounts
-            (none_first _ (sym c.first_unpaid.ensures.first ∙ w.in-None.is)),
+            (subst (λ (o : Option Debt). IsLeastIn (unpaid c.self.inside.remembered.set (queue_of c.self.inside.accounts.debts c.args.mutator)) o)
+            w.in-None.is c.first_unpaid.ensures.first),
       )
 ]
 

@@ -4,7 +4,7 @@ use Rattle.nmgc_barrier_checker.specs.Watching.{IsEnding}
 use Rattle.nmgc_barrier_checker.proofs.watch.Running.result_or_why.Goals as goal
 
 pub returns-in-Some : goal.returns-in-Some
-returns-in-Some c = inl (c.in-Some.mutator, refl, c.in-Some.ensures.0, c.in-Some.ensures.1)
+returns-in-Some c = inl (c.in-Some.mutator, refl, c.in-Some.ensures)
 
 pub returns-in-None : goal.returns-in-None
 returns-in-None c = ending_in c.args.self.now c.result_or_why.result c.in-None.ensures

@@ -4,7 +4,7 @@ use Rattle.nmgc_barrier_checker.specs.Watching.{IsEndingWith}
 use Rattle.nmgc_barrier_checker.proofs.watch.Running.result_or_why_with.Goals as goal
 
 pub returns-in-Some : goal.returns-in-Some
-returns-in-Some c = inl (c.in-Some.mutator, refl, c.in-Some.ensures.0, c.in-Some.ensures.1)
+returns-in-Some c = inl (c.in-Some.mutator, refl, c.in-Some.ensures)
 
 pub returns-in-None : goal.returns-in-None
 returns-in-None c = ending_with_in c.args.self.now c.args.named.now c.result_or_why_with.result c.in-None.ensures

@@ -1,4 +1,4 @@
-use Rattle.nmgc_cycle.proofs.{Vocabulary.ℕ, Vocabulary.◌∙◌, Vocabulary.◌+◌, Vocabulary.◌≤◌, Vocabulary.◌∷◌, Vocabulary.List, Vocabulary.[], Vocabulary.length, Vocabulary.length-append, Vocabulary.slice_index, Vocabulary.refl, Vocabulary.sym, Vocabulary.ap, Vocabulary.subst, Vocabulary.arith, Vocabulary.Script, Vocabulary.StopRow, Vocabulary.RoundRows, Vocabulary.lawful_are_of_runs, Vocabulary.stop_is_lawful, Vocabulary.HasAnswered, Vocabulary.MayBeAsked, Vocabulary.FollowEach, Vocabulary.CanContinue, Vocabulary.IsScriptSoFar, Vocabulary.all_replies, Vocabulary.cycle_most, Vocabulary.most_stops, Vocabulary.IsRunOf, Vocabulary.Report, lengths.Few.stop_fits, rounds.SoFar.may_continue, rounds.SoFar.may_follow, rounds.SoFar.threads_count, rounds.RunSoFar.so_far_first, rounds.RunSoFar.so_far_next, rounds.RunSoFar.stops_bound, rounds.RunSoFar.empty_limits}
+use Rattle.nmgc_cycle.proofs.{Vocabulary.ℕ, Vocabulary.◌∙◌, Vocabulary.◌+◌, Vocabulary.◌≤◌, Vocabulary.◌∷◌, Vocabulary.List, Vocabulary.[], Vocabulary.length, Vocabulary.length-append, Vocabulary.slice_index, Vocabulary.refl, Vocabulary.sym, Vocabulary.ap, Vocabulary.subst, Vocabulary.arith, Vocabulary.Script, Vocabulary.StopRow, Vocabulary.RoundRows, Vocabulary.lawful_are_of_runs, Vocabulary.stop_is_lawful, Vocabulary.HasAnswered, Vocabulary.MayBeAsked, Vocabulary.FollowEach, Vocabulary.CanContinue, Vocabulary.IsScriptSoFar, Vocabulary.all_replies, Vocabulary.cycle_most, Vocabulary.most_stops, Vocabulary.IsRunOf, Vocabulary.Report, lengths.Few.stop_fits, rounds.SoFar.may_continue, rounds.SoFar.may_follow, rounds.SoFar.threads_count, rounds.SoFar.both, rounds.SoFar.gave_both, rounds.Continuing.gave_none, rounds.RunSoFar.so_far_first, rounds.RunSoFar.so_far_next, rounds.RunSoFar.stops_bound, rounds.RunSoFar.empty_limits}
 use Rattle.nmgc_cycle.proofs.collector.Collector.run_programs.Goals as goal
 
 pub of-began-requires : goal.of-began-requires
@@ -103,8 +103,8 @@ pub into_report-requires-in-HeapFull : goal.into_report-requires-in-HeapFull
 into_report-requires-in-HeapFull g c =
     (c.of-script.result.value, subst (HasAnswered c.of-script.result.value c.stop_programs.new.self) c.in-HeapFull.is c.in_ok-stop_programs.ensures.answered)
 
-pub returns-in-Done : goal.returns-in-Done
-returns-in-Done g c =
+pub returns-in-Done-clause-run : goal.returns-in-Done-clause-run
+returns-in-Done-clause-run g c =
     let h : IsScriptSoFar g.P.Program.next g.P.Program.steps g.P.Program.words g.P.Program.most g.P.Program.valid c.args.config.now c.args.programs.now c.stops.collector c.stops.programs c.of-script.result.value =
     subst (λ l. IsScriptSoFar g.P.Program.next g.P.Program.steps g.P.Program.words g.P.Program.most g.P.Program.valid c.args.config.now l c.stops.collector c.stops.programs c.of-script.result.value) c.of-began.ensures
     c.of-script.ensures in
@@ -120,8 +120,8 @@ returns-in-Done g c =
           ∙ ap (λ (r : List RoundRows). all_replies r k) c.in_ok-stop_programs.ensures.rounds ∙ h.replies k d e;
     }
 
-pub returns-in-HeapFull : goal.returns-in-HeapFull
-returns-in-HeapFull g c =
+pub returns-in-HeapFull-clause-run : goal.returns-in-HeapFull-clause-run
+returns-in-HeapFull-clause-run g c =
     let h : IsScriptSoFar g.P.Program.next g.P.Program.steps g.P.Program.words g.P.Program.most g.P.Program.valid c.args.config.now c.args.programs.now c.stops.collector c.stops.programs c.of-script.result.value =
     subst (λ l. IsScriptSoFar g.P.Program.next g.P.Program.steps g.P.Program.words g.P.Program.most g.P.Program.valid c.args.config.now l c.stops.collector c.stops.programs c.of-script.result.value) c.of-began.ensures
     c.of-script.ensures in
@@ -136,3 +136,21 @@ returns-in-HeapFull g c =
       replies = λ k d e. ap (λ (r : Report). all_replies r.rounds k) c.into_report-in-HeapFull.ensures.parts
           ∙ ap (λ (r : List RoundRows). all_replies r k) c.in_ok-stop_programs.ensures.rounds ∙ h.replies k d e;
     }
+
+-- without memory the programs are as they were at their last reply
+
+pub returns-in_err-empty-clause-gave : goal.returns-in_err-empty-clause-gave
+returns-in_err-empty-clause-gave g c = gave_none g.P.Program.next g.P.Program.steps g.P.Program.words g.P.Program.most g.P.Program.valid c.args.programs.now c.requires.valid_are
+
+pub returns-in_err-collector-clause-gave : goal.returns-in_err-collector-clause-gave
+returns-in_err-collector-clause-gave g c = gave_none g.P.Program.next g.P.Program.steps g.P.Program.words g.P.Program.most g.P.Program.valid c.args.programs.now c.requires.valid_are
+
+pub returns-in_err-round_programs-in-GoOn-clause-gave : goal.returns-in_err-round_programs-in-GoOn-clause-gave
+returns-in_err-round_programs-in-GoOn-clause-gave g c =
+    let h : IsScriptSoFar g.P.Program.next g.P.Program.steps g.P.Program.words g.P.Program.most g.P.Program.valid c.args.config.now c.args.programs.now c.stops.collector c.stops.programs c.of-script.result.value =
+    subst (λ l. IsScriptSoFar g.P.Program.next g.P.Program.steps g.P.Program.words g.P.Program.most g.P.Program.valid c.args.config.now l c.stops.collector c.stops.programs c.of-script.result.value) c.of-began.ensures
+    c.of-script.ensures in
+    let last = c.round_programs.ensures.gave in (
+      both g.P.Program.next g.P.Program.steps h.given last.0,
+      gave_both g.P.Program.next g.P.Program.steps g.P.Program.words g.P.Program.most g.P.Program.valid (g.met.P.Program g.world.𝓛 g.world.𝓜 g.world.𝓡 ((λ s x. x), (λ x. x), (λ x. x), λ x. x)).waits c.args.config.now c.args.programs.now c.requires h.given last.0 c.stops.programs c.round_programs.new.programs h.gave last.1,
+    )

@@ -1,0 +1,41 @@
+-- How often a name comes due, by the heap and the commands alone: pushes play no part.
+use Rattle.std.specs.Prelude.{◌≡◌, ◌+◌, ◌-◌, ◌^◌, min, ℕ, List, [], ◌∷◌, Option, Some, None}
+use Rattle.nmgc_world_spec.specs.{declared.value.Name.Name, declared.command.Command.Command, Reach.Counts}
+use Rattle.nmgc_barrier_laws.specs.Hybrid.{IsDueIn}
+use Rattle.nmgc_barrier_checker.specs.{declared.event.Event.Event, declared.event.Why.Why, declared.watch.Watch.Watch, Watching.CanAct}
+use Rattle.nmgc_barrier_checker.specs.declared.event.Event.TheVariants as event
+use Rattle.nmgc_barrier_checker.specs.declared.watch.Watch.TheVariants as watch
+
+-- the number of names with a property was added to a count, which stops at 2^64 - 1
+abbrev pub IsAdded : (Name → Type 0) → ℕ → ℕ → Type 0
+IsAdded P before after = (count : ℕ) × Counts P count × (after ≡ min (before + count) (2 ^ 64 - 1))
+
+-- the count after a command: in a cycle, each name that the command makes due counts once
+abbrev pub AddsDues : Watch → ℕ → Command → ℕ → ℕ → Type 0
+AddsDues (watch.Marking h) m c before after = IsAdded (IsDueIn h m c) before after
+AddsDues p m c before after = after ≡ before
+
+-- the commands of one line are done, one after the other, with the counts before and after them
+abbrev pub AreCounted : ℕ → ℕ → List Command → Watch → ℕ → Watch → ℕ → Type 0
+AreCounted line m [] p before next after = (next ≡ p) × (after ≡ before)
+AreCounted line m (c ∷ cs) p before next after = (between : Watch) × (count : ℕ) × CanAct line m c p between × AddsDues p m c before count ×
+    AreCounted line m cs between count next after
+
+-- the count after a line's event that can happen: only commands make names due
+abbrev pub CountsDues : ℕ → Watch → Event → ℕ → ℕ → Type 0
+CountsDues line p (event.Given m c answer) before after = AddsDues p m c before after
+CountsDues line p (event.Rows m commands) before after = (next : Watch) × AreCounted line m commands p before next after
+CountsDues line p e before after = after ≡ before
+
+-- for private contracts: as above if the command or event was done, and any count if it was refused
+abbrev pub IsAddedIf : (Name → Type 0) → Option Why → ℕ → ℕ → Type 0
+IsAddedIf P None before after = IsAdded P before after
+IsAddedIf P (Some y) before after = Unit {0}
+
+abbrev pub AddsDuesIf : Watch → ℕ → Command → Option Why → ℕ → ℕ → Type 0
+AddsDuesIf p m c None before after = AddsDues p m c before after
+AddsDuesIf p m c (Some y) before after = Unit {0}
+
+abbrev pub CountsDuesIf : ℕ → Watch → Event → Option Why → ℕ → ℕ → Type 0
+CountsDuesIf line p e None before after = CountsDues line p e before after
+CountsDuesIf line p e (Some y) before after = Unit {0}

@@ -1,0 +1,192 @@
+-- The debts of a trace's state: each was there before or is new at its line, and a reason about a due name is about one of them.
+use Rattle.nmgc_trace_checker.proofs.Vocabulary.{◌≡◌, ◌⊎◌, ◌∙◌, ℕ, refl, sym, ap, subst, inl, inr, List, [], ◌∷◌, Contains, nothing, Name, Command, Reply, World, Cycle, Hybrid, IsWatchedIn, Watch, CanAct, AreDone, Meaning, Begun, Happens}
+use Rattle.nmgc_barrier_laws.specs.declared.debt.Debt.{Debt}
+use Rattle.nmgc_barrier_checker.specs.{declared.event.Event.Event, declared.event.Why.Why, Cycles.IsNotDone, Cycles.IsWhyNot, Watching.Can, Watching.IsAgainst, Watching.IsAgainstWith, Watching.IsOwed, Watching.IsWhy, Watching.StopsAt, Watching.WhyKept, Watching.WhyNoAct}
+use Rattle.nmgc_barrier_checker.specs.declared.event.Event.TheVariants as event
+use Rattle.nmgc_barrier_checker.specs.declared.event.Why.TheVariants as why
+use Rattle.nmgc_barrier_checker.specs.declared.watch.Watch.TheVariants as watch
+use Rattle.nmgc_trace_checker.specs.{Notes.IsOwedIn, Reports.IsRefusal}
+use Rattle.nmgc_trace_checker.specs.declared.meaning.Meaning.TheVariants as meaning
+use Rattle.nmgc_trace_checker.specs.declared.report.Begun.TheVariants as begun
+use Rattle.nmgc_trace_checker.specs.declared.report.Refusal.TheVariants as refusal
+
+-- a debt is new at this line, or was there before
+abbrev IsFrom : ℕ → Watch → Debt → Type 0
+IsFrom n p d = (d.line ≡ n) ⊎ IsOwed p d
+
+module _ (n : ℕ) (d : Debt) where
+  owed_in : (p q : Watch) → q ≡ p → IsOwed q d → IsOwed p d
+  owed_in p q e o = subst (λ (x : Watch). IsOwed x d) e o
+
+  given : (h next : Hybrid) (m : ℕ) (c : Command) (answer : Reply) → IsWatchedIn h n m c answer next → Contains next.watch.debts d →
+      IsFrom n (watch.Marking h) d
+  given h next m c answer w o = elim (w.new d o) [ inl old ↦ inr old | inr p ↦ inl p.0 ]
+
+  acts : (m : ℕ) (c : Command) (p next : Watch) → CanAct n m c p next → IsOwed next d → IsFrom n p d
+  acts m c (watch.Between w) next a o = inr (owed_in (watch.Between a.0) next a.2 o)
+  acts m c (watch.Marking h) next a o = given h a.0 m c _ a.1 (owed_in (watch.Marking a.0) next a.3 o)
+  acts m c (watch.Ended left) next a o = inr (owed_in (watch.Ended (record left { world = a.0 })) next a.2 o)
+  acts m c watch.Stopped next a o = absurd a
+
+  done : (m : ℕ) (cs : List Command) (p next : Watch) → AreDone n m cs p next → IsOwed next d → IsFrom n p d
+  done m [] p next a o = inr (owed_in p next a o)
+  done m (c ∷ cs) p next a o = elim (done m cs a.0 next a.2 o) [ inl e ↦ inl e | inr b ↦ acts m c p a.0 a.1 b ]
+
+  -- the debts after an event
+  from_event : (p next : Watch) (e : Event) → Can n p e next → IsOwed next d → IsFrom n p d
+  from_event (watch.Between w) next (event.Given m c answer) k o = inr (owed_in (watch.Between k.0) next k.2 o)
+  from_event (watch.Marking h) next (event.Given m c answer) k o = given h k.0 m c answer k.1 (owed_in (watch.Marking k.0) next k.2 o)
+  from_event (watch.Ended left) next (event.Given m c answer) k o = inr (owed_in (watch.Ended (record left { world = k.0 })) next k.2 o)
+  from_event watch.Stopped next (event.Given m c answer) k o = absurd k
+  from_event (watch.Between w) next (event.Rows m cs) k o = done m cs (watch.Between w) next k.1 o
+  from_event (watch.Marking h) next (event.Rows m cs) k o = done m cs (watch.Marking h) next k.1 o
+  from_event (watch.Ended left) next (event.Rows m cs) k o = done m cs (watch.Ended left) next k.1 o
+  from_event watch.Stopped next (event.Rows m cs) k o = absurd k
+  from_event (watch.Between w) next event.Mark k o = absurd (nothing d (owed_in _ next k o))
+  from_event (watch.Marking h) next event.Mark k o = absurd k
+  from_event (watch.Ended left) next event.Mark k o = absurd (nothing d (owed_in _ next k o))
+  from_event watch.Stopped next event.Mark k o = absurd k
+  from_event (watch.Between w) next event.MarkShared k o = absurd (nothing d (owed_in _ next k o))
+  from_event (watch.Marking h) next event.MarkShared k o = absurd k
+  from_event (watch.Ended left) next event.MarkShared k o = absurd (nothing d (owed_in _ next k o))
+  from_event watch.Stopped next event.MarkShared k o = absurd k
+  from_event (watch.Between w) next (event.Scan m) k o = absurd k
+  from_event (watch.Marking h) next (event.Scan m) k o = inr (subst (λ (x : Hybrid). Contains x.watch.debts d) k.1.rest (owed_in (watch.Marking k.0) next k.2 o))
+  from_event (watch.Ended left) next (event.Scan m) k o = absurd k
+  from_event watch.Stopped next (event.Scan m) k o = absurd k
+  from_event (watch.Between w) next (event.Push name) k o = absurd k
+  from_event (watch.Marking h) next (event.Push name) k o = inr ((k.1.debts d).0 (owed_in (watch.Marking (record h { watch = k.0 })) next k.2 o)).0
+  from_event (watch.Ended left) next (event.Push name) k o = absurd k
+  from_event watch.Stopped next (event.Push name) k o = absurd k
+  from_event (watch.Between w) next (event.Settle m) k o = absurd k
+  from_event (watch.Marking h) next (event.Settle m) k o = inr (owed_in (watch.Marking h) next k.1 o)
+  from_event (watch.Ended left) next (event.Settle m) k o = absurd k
+  from_event watch.Stopped next (event.Settle m) k o = absurd k
+  from_event (watch.Between w) next (event.Take name) k o = absurd k
+  from_event (watch.Marking h) next (event.Take name) k o =
+      inr (subst (λ (x : Cycle). Contains x.debts d) k.1.rest (owed_in (watch.Marking (record h { watch = k.0 })) next k.2 o))
+  from_event (watch.Ended left) next (event.Take name) k o = absurd k
+  from_event watch.Stopped next (event.Take name) k o = absurd k
+  from_event (watch.Between w) next event.Close k o = absurd k
+  from_event (watch.Marking h) next event.Close k o = absurd (owed_in (watch.Ended k.0) next k.2 o)
+  from_event (watch.Ended left) next event.Close k o = absurd k
+  from_event watch.Stopped next event.Close k o = absurd k
+  from_event (watch.Between w) next (event.CloseWith dead) k o = absurd k
+  from_event (watch.Marking h) next (event.CloseWith dead) k o = absurd (owed_in (watch.Ended k.0) next k.2 o)
+  from_event (watch.Ended left) next (event.CloseWith dead) k o = absurd k
+  from_event watch.Stopped next (event.CloseWith dead) k o = absurd k
+  from_event (watch.Between w) next (event.Marked names) k o = absurd k
+  from_event (watch.Marking h) next (event.Marked names) k o = absurd k
+  from_event (watch.Ended left) next (event.Marked names) k o = absurd (owed_in (watch.Ended left) next k.1 o)
+  from_event watch.Stopped next (event.Marked names) k o = absurd k
+  from_event (watch.Between w) next (event.Freed names) k o = absurd k
+  from_event (watch.Marking h) next (event.Freed names) k o = absurd k
+  from_event (watch.Ended left) next (event.Freed names) k o = absurd (owed_in (watch.Ended left) next k.1 o)
+  from_event watch.Stopped next (event.Freed names) k o = absurd k
+  from_event (watch.Between w) next event.Stop k o = absurd k
+  from_event (watch.Marking h) next event.Stop k o = absurd k
+  from_event (watch.Ended left) next event.Stop k o = absurd (owed_in watch.Stopped next k o)
+  from_event watch.Stopped next event.Stop k o = absurd k
+
+  owed_of : (p q : Begun) → q ≡ p → IsOwedIn q d → IsOwedIn p d
+  owed_of p q e o = subst (λ (x : Begun). IsOwedIn x d) e o
+
+  -- the debts after a line
+  pub from_line : (p next : Begun) (t : Meaning) → Happens n p t next → IsOwedIn next d → (d.line ≡ n) ⊎ IsOwedIn p d
+  from_line p next meaning.Blank k o = inr (owed_of p next k o)
+  from_line begun.Nothing next (meaning.Mutators count) k o = absurd (owed_of _ next k.2 o)
+  from_line (begun.Watching p) next (meaning.Mutators count) k o = absurd k
+  from_line begun.Nothing next (meaning.Event e) k o = absurd k
+  from_line (begun.Watching p) next (meaning.Event e) k o = from_event p k.0 e k.1 (owed_of (begun.Watching k.0) next k.2 o)
+  from_line p next meaning.Unknown k o = absurd k
+
+-- a reason about a due name
+module _ (d : Debt) where
+  same_debt : (e : Debt) → why.Due d ≡ why.Due e → e ≡ d
+  same_debt e is = cc
+
+  not_done : (w : World) (m : ℕ) (c : Command) → IsNotDone w m c (why.Due d) → ⊥
+  not_done w m c x = x
+
+  no_act : (m : ℕ) (c : Command) (p : Watch) → WhyNoAct m c p (why.Due d) → ⊥
+  no_act m c (watch.Between w) x = x
+  no_act m c (watch.Marking h) x = x
+  no_act m c (watch.Ended left) x = x
+  no_act m c watch.Stopped x = cc
+
+  against : (h : Cycle) → IsAgainst h (why.Due d) → Contains h.debts d
+  against h (inl x) = subst (λ (e : Debt). Contains h.debts e) (same_debt x.0 x.1) x.2.0
+  against h (inr x) = absurd (let bad : why.Due d ≡ why.Untaken x.1.0 = x.1.1 in cc)
+
+  against_with : (h : Cycle) (named : List Name) → IsAgainstWith h named (why.Due d) → Contains h.debts d
+  against_with h named (inl x) = against h x
+  against_with h named (inr x) = absurd (let bad : why.Due d ≡ why.NotDead x.2.0 = x.2.1 in cc)
+
+  of_event : (p : Watch) (e : Event) → IsWhy p e (why.Due d) → IsOwed p d
+  of_event (watch.Between w) (event.Given m c answer) x = absurd x
+  of_event (watch.Marking h) (event.Given m c answer) x = absurd x
+  of_event (watch.Ended left) (event.Given m c answer) x = absurd x
+  of_event watch.Stopped (event.Given m c answer) x = absurd (let bad : why.Due d ≡ why.Misplaced = x in cc)
+  of_event (watch.Between w) (event.Rows m cs) x = absurd (elim x.2 [ inl s ↦ no_act m s.command x.1 s.reason | inr a ↦ (let bad : why.Due d ≡ why.CannotApply = a.0 in cc) ])
+  of_event (watch.Marking h) (event.Rows m cs) x = absurd (elim x.2 [ inl s ↦ no_act m s.command x.1 s.reason | inr a ↦ (let bad : why.Due d ≡ why.CannotApply = a.0 in cc) ])
+  of_event (watch.Ended left) (event.Rows m cs) x = absurd (elim x.2 [ inl s ↦ no_act m s.command x.1 s.reason | inr a ↦ (let bad : why.Due d ≡ why.CannotApply = a.0 in cc) ])
+  of_event watch.Stopped (event.Rows m cs) x = absurd (let bad : why.Due d ≡ why.Misplaced = x.2.0 in cc)
+  of_event (watch.Between w) event.Mark x = absurd x
+  of_event (watch.Marking h) event.Mark x = absurd (let bad : why.Due d ≡ why.Misplaced = x in cc)
+  of_event (watch.Ended left) event.Mark x = absurd x
+  of_event watch.Stopped event.Mark x = absurd (let bad : why.Due d ≡ why.Misplaced = x in cc)
+  of_event (watch.Between w) event.MarkShared x = absurd x
+  of_event (watch.Marking h) event.MarkShared x = absurd (let bad : why.Due d ≡ why.Misplaced = x in cc)
+  of_event (watch.Ended left) event.MarkShared x = absurd x
+  of_event watch.Stopped event.MarkShared x = absurd (let bad : why.Due d ≡ why.Misplaced = x in cc)
+  of_event (watch.Marking h) (event.Scan m) x = absurd (elim x [ inl a ↦ (let bad : why.Due d ≡ why.CannotApply = a.0 in cc) | inr a ↦ (let bad : why.Due d ≡ why.Misplaced = a.0 in cc) ])
+  of_event (watch.Between w) (event.Scan m) x = absurd (let bad : why.Due d ≡ why.Misplaced = x in cc)
+  of_event (watch.Ended left) (event.Scan m) x = absurd (let bad : why.Due d ≡ why.Misplaced = x in cc)
+  of_event watch.Stopped (event.Scan m) x = absurd (let bad : why.Due d ≡ why.Misplaced = x in cc)
+  of_event (watch.Marking h) (event.Push name) x = absurd (let bad : why.Due d ≡ why.NoSuchName name = x.0 in cc)
+  of_event (watch.Between w) (event.Push name) x = absurd (let bad : why.Due d ≡ why.Misplaced = x in cc)
+  of_event (watch.Ended left) (event.Push name) x = absurd (let bad : why.Due d ≡ why.Misplaced = x in cc)
+  of_event watch.Stopped (event.Push name) x = absurd (let bad : why.Due d ≡ why.Misplaced = x in cc)
+  of_event (watch.Marking h) (event.Settle m) (inl x) = subst (λ (e : Debt). Contains h.watch.debts e) (same_debt x.0 x.1) x.2.0.0
+  of_event (watch.Marking h) (event.Settle m) (inr x) = absurd (let bad : why.Due d ≡ why.CannotApply = x.0 in cc)
+  of_event (watch.Between w) (event.Settle m) x = absurd (let bad : why.Due d ≡ why.Misplaced = x in cc)
+  of_event (watch.Ended left) (event.Settle m) x = absurd (let bad : why.Due d ≡ why.Misplaced = x in cc)
+  of_event watch.Stopped (event.Settle m) x = absurd (let bad : why.Due d ≡ why.Misplaced = x in cc)
+  of_event (watch.Marking h) (event.Take name) x = absurd (let bad : why.Due d ≡ why.NotPushed name = x.0 in cc)
+  of_event (watch.Between w) (event.Take name) x = absurd (let bad : why.Due d ≡ why.Misplaced = x in cc)
+  of_event (watch.Ended left) (event.Take name) x = absurd (let bad : why.Due d ≡ why.Misplaced = x in cc)
+  of_event watch.Stopped (event.Take name) x = absurd (let bad : why.Due d ≡ why.Misplaced = x in cc)
+  of_event (watch.Marking h) event.Close (inl x) = absurd (let bad : why.Due d ≡ why.Unscanned x.0 = x.1 in cc)
+  of_event (watch.Marking h) event.Close (inr x) = against h.watch x.1
+  of_event (watch.Between w) event.Close x = absurd (let bad : why.Due d ≡ why.Misplaced = x in cc)
+  of_event (watch.Ended left) event.Close x = absurd (let bad : why.Due d ≡ why.Misplaced = x in cc)
+  of_event watch.Stopped event.Close x = absurd (let bad : why.Due d ≡ why.Misplaced = x in cc)
+  of_event (watch.Marking h) (event.CloseWith dead) (inl x) = absurd (let bad : why.Due d ≡ why.Unscanned x.0 = x.1 in cc)
+  of_event (watch.Marking h) (event.CloseWith dead) (inr x) = against_with h.watch dead x.1
+  of_event (watch.Between w) (event.CloseWith dead) x = absurd (let bad : why.Due d ≡ why.Misplaced = x in cc)
+  of_event (watch.Ended left) (event.CloseWith dead) x = absurd (let bad : why.Due d ≡ why.Misplaced = x in cc)
+  of_event watch.Stopped (event.CloseWith dead) x = absurd (let bad : why.Due d ≡ why.Misplaced = x in cc)
+  of_event (watch.Ended left) (event.Marked names) (inl x) = absurd (let bad : why.Due d ≡ why.NotListed x.0 = x.1 in cc)
+  of_event (watch.Ended left) (event.Marked names) (inr x) = absurd (let bad : why.Due d ≡ why.NotMarked x.1.0 = x.1.1 in cc)
+  of_event (watch.Between w) (event.Marked names) x = absurd (let bad : why.Due d ≡ why.Misplaced = x in cc)
+  of_event (watch.Marking h) (event.Marked names) x = absurd (let bad : why.Due d ≡ why.Misplaced = x in cc)
+  of_event watch.Stopped (event.Marked names) x = absurd (let bad : why.Due d ≡ why.Misplaced = x in cc)
+  of_event (watch.Ended left) (event.Freed names) x = absurd (elim x.2 [
+    | inl a ↦ (let bad : why.Due d ≡ why.NoSuchName x.0 = a.0 in cc)
+    | inr a ↦ elim a.1 [ inl b ↦ (let bad : why.Due d ≡ why.NotOld x.0 = b.0 in cc) | inr b ↦ (let bad : why.Due d ≡ why.Needed x.0 = b.0 in cc) ]
+  ])
+  of_event (watch.Between w) (event.Freed names) x = absurd (let bad : why.Due d ≡ why.Misplaced = x in cc)
+  of_event (watch.Marking h) (event.Freed names) x = absurd (let bad : why.Due d ≡ why.Misplaced = x in cc)
+  of_event watch.Stopped (event.Freed names) x = absurd (let bad : why.Due d ≡ why.Misplaced = x in cc)
+  of_event (watch.Ended left) event.Stop x = absurd x
+  of_event (watch.Between w) event.Stop x = absurd (let bad : why.Due d ≡ why.Misplaced = x in cc)
+  of_event (watch.Marking h) event.Stop x = absurd (let bad : why.Due d ≡ why.Misplaced = x in cc)
+  of_event watch.Stopped event.Stop x = absurd (let bad : why.Due d ≡ why.Misplaced = x in cc)
+
+  pub of_line : (p : Begun) (t : Meaning) → IsRefusal p t (refusal.Event (why.Due d)) → IsOwedIn p d
+  of_line p meaning.Blank x = absurd x
+  of_line begun.Nothing (meaning.Mutators count) x = absurd (let bad : refusal.Event (why.Due d) ≡ refusal.Misplaced = x.0 in cc)
+  of_line (begun.Watching p) (meaning.Mutators count) x = absurd (let bad : refusal.Event (why.Due d) ≡ refusal.Misplaced = x in cc)
+  of_line begun.Nothing (meaning.Event e) x = absurd (let bad : refusal.Event (why.Due d) ≡ refusal.Misplaced = x in cc)
+  of_line (begun.Watching p) (meaning.Event e) x = of_event p e x
+  of_line p meaning.Unknown x = absurd (let bad : refusal.Event (why.Due d) ≡ refusal.Unknown = x in cc)
