@@ -5,7 +5,7 @@ use Rattle.nmgc_world_spec.specs.{declared.value.Name.Name, World.World, World.n
 use Rattle.nmgc_graph.specs.{Marks.HasPlace, Marks.HasPlaces, Marks.IsMarked, Marks.mark_of, Marks.with_mark, laws.Rows.kept_others, laws.Rows.places_kept, laws.Rows.makers_kept, laws.Rows.name_placed}
 use Rattle.nmgc_lists.specs.{laws.Items.contains_head, laws.Items.nothing_in, laws.Items.one_is, laws.Items.contains_one, laws.Items.contains_at, laws.Items.place_of, laws.Items.contains_flat, laws.Items.flat_contains, laws.Truths.unmarked}
 use Rattle.nmgc_barrier_laws.specs.declared.debt.Debt.{Debt}
-use Rattle.nmgc_barrier_checker.specs.{declared.accounts.Accounts.Accounts, Accounts.is_unpaid, Accounts.unpaid, Accounts.IsPaidUp, Accounts.queue_of, Accounts.set_of, Accounts.all_debts, Accounts.debt_of, Accounts.AreAccounts, Accounts.AreNew, Accounts.is_new, Accounts.owed_one, Accounts.IsOwing, Accounts.IsForgotten, Accounts.IsLeastIn}
+use Rattle.nmgc_barrier_checker.specs.{declared.accounts.Accounts.Accounts, Accounts.is_unpaid, Accounts.unpaid, Accounts.queue_of, Accounts.set_of, Accounts.all_debts, Accounts.debt_of, Accounts.AreAccounts, Accounts.AreNew, Accounts.is_new, Accounts.owed_one, Accounts.IsOwing, Accounts.IsForgotten, Accounts.IsLeastIn}
 use Rattle.nmgc_snapshot_laws.specs.Machine.{is_pushed_in}
 use Rattle.nmgc_barrier_checker.specs.First.{IsEarlier, IsEarliest}
 use Rattle.nmgc_barrier_checker.proofs.{Filters.kept_in, Filters.in_kept, Firsts.earlier_trans, Firsts.not_earlier_itself, DueLaws.owable_is}

@@ -1,5 +1,5 @@
 -- The number of different names in a list: the length of the sorted list, each name once.
-use Rattle.nmgc_barrier_checker.proofs.Vocabulary.{◌≡◌, ◌≢◌, ◌<◌, ◌≤◌, ◌+◌, ◌-◌, ◌⊎◌, ◌∙◌, ℕ, zero, suc, List, [], ◌∷◌, ◌++◌, length, take, take_more, get_or, filter, refl, sym, ap, subst, arith, inl, inr, Bool, true, false, cases_Bool, cond, not, Contains, Name, IsBefore, IsInOrder, Lists, is_same_name, tested_same, is_same_name-refl, before_trans, contains_head, contains_tail, contains_cases, nothing_in, name_cases}
+use Rattle.nmgc_barrier_checker.proofs.Vocabulary.{◌≡◌, ◌≢◌, ◌<◌, ◌+◌, ◌-◌, ◌⊎◌, ◌∙◌, ℕ, zero, suc, List, [], ◌∷◌, ◌++◌, length, take, take_more, get_or, refl, sym, ap, subst, arith, inl, inr, Bool, true, false, cond, not, Contains, Name, IsBefore, IsInOrder, is_same_name, tested_same, is_same_name-refl, before_trans, contains_head, contains_tail, contains_cases, nothing_in}
 use Rattle.std.specs.{List.Sorted.IsPermutation, Prelude.slice_index_or, Ordering.nat_cmp, Ordering.ordering_then, Ordering.is_lt, declared.cmp.Ordering.Ordering}
 use Rattle.std.specs.declared.cmp.Ordering.TheVariants.{Less, Equal, Greater}
 use Rattle.std.proofs.lemmas.{Cmp.ranked, List.Sorted.Contains-permutation, List.Sorted.IsPermutation-sym}

@@ -1,5 +1,5 @@
 -- Facts of the names of a world that can be decided, and the lists of names with such a fact.
-use Rattle.std.proofs.{Common.◌≡◌, Common.◌≢◌, Common.◌<◌, Common.◌≤◌, Common.◌+◌, Common.ℕ, Common.List, Common.[], Common.◌∷◌, Common.◌++◌, Common.zero, Common.suc, Common.length, Common.refl, Common.sym, Common.ap, Common.subst, Common.◌∙◌, Common.arith, Common.Bool, Common.true, Common.false, Common.not, Common.cond, Common.inl, Common.inr, Common.◌⊎◌, lemmas.Bool.cases_Bool, lemmas.Bool.cases_lt, lemmas.Bool.false≢true, lemmas.Bool.or_cases, lemmas.Bool.Decides.eqb_tells, lemmas.List.get_or_past}
+use Rattle.std.proofs.{Common.◌≡◌, Common.◌<◌, Common.◌≤◌, Common.◌+◌, Common.ℕ, Common.List, Common.[], Common.◌∷◌, Common.◌++◌, Common.zero, Common.suc, Common.length, Common.refl, Common.sym, Common.ap, Common.subst, Common.◌∙◌, Common.arith, Common.Bool, Common.true, Common.false, Common.not, Common.cond, Common.inl, Common.inr, Common.◌⊎◌, lemmas.Bool.cases_Bool, lemmas.Bool.cases_lt, lemmas.Bool.false≢true, lemmas.Bool.or_cases, lemmas.Bool.Decides.eqb_tells, lemmas.List.get_or_past}
 use Rattle.std.specs.Prelude.{Contains, IsSome, is_some, filter, ◌||◌}
 use Rattle.nmgc_limits.specs.declared.mutators.TheConstants.{SHARED_MAKER}
 use Rattle.nmgc_world_spec.specs.{declared.value.Name.Name, declared.mutator_state.MutatorState.MutatorState, World.is_same_name, World.World, World.node_of, World.state_of, World.serial_of, World.no_mutator, Order.ListsBefore, Reach.Lists, laws.Orders.contains_filter, laws.Orders.filter_contains, laws.Orders.in_order_filter, laws.Orders.lists_none, laws.Orders.lists_more, laws.Orders.lists_same, laws.Orders.lists_maker, laws.Orders.lists_all}

@@ -1,6 +1,6 @@
 -- The first of several names or debts.
-use Rattle.nmgc_barrier_checker.proofs.Vocabulary.{◌≡◌, ◌<◌, ◌≤◌, ◌+◌, ◌⊎◌, ◌∙◌, ℕ, zero, suc, List, [], ◌∷◌, ◌++◌, length, take, drop, get_or, refl, sym, ap, subst, arith, inl, inr, Bool, true, false, false≢true, cases_Bool, cases_lt, cases_eq, Option, Some, None, Contains, Name, Debt, IsBefore, before_trans, not_before_itself, contains_head, contains_tail, contains_cases, nothing_in, one_is, contains_one, Contains-append_left, Contains-append_right, Contains-append_cases}
-use Rattle.nmgc_barrier_checker.specs.{First.IsFirstName, First.StandsFirst, First.IsEarlier, First.IsEarliest}
+use Rattle.nmgc_barrier_checker.proofs.Vocabulary.{◌≡◌, ◌<◌, ◌+◌, ◌⊎◌, ◌∙◌, ℕ, zero, suc, List, [], ◌∷◌, ◌++◌, length, take, drop, get_or, refl, sym, ap, subst, arith, inl, inr, Bool, true, false, false≢true, cases_Bool, cases_lt, cases_eq, Option, Some, None, Contains, Name, Debt, IsBefore, before_trans, not_before_itself, contains_head, contains_tail, contains_cases, nothing_in, one_is, contains_one, Contains-append_left, Contains-append_right, Contains-append_cases}
+use Rattle.nmgc_barrier_checker.specs.{First.StandsFirst, First.IsEarlier}
 
 -- ORDERS
 

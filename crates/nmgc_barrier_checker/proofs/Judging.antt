@@ -1,5 +1,5 @@
 -- Every event can happen or has a reason.
-use Rattle.nmgc_barrier_checker.proofs.Vocabulary.{IsBefore, before_trans, not_before_itself, ◌≡◌, ◌≢◌, ◌<◌, ◌≤◌, ℕ, List, [], ◌∷◌, ◌++◌, length, map, refl, sym, ap, subst, ◌∙◌, arith, Bool, true, false, not, cond, inl, inr, ◌⊎◌, eqb, Contains, IsSome, is_some, filter, ◌&&◌, ◌↔◌, cases_Bool, cases_lt, false≢true, and_cases, and_parts, and_from, not-false, eqb-true, eq-eqb, Contains-append_left, Contains-append_right, Contains-append_cases, Name, MutatorState, Command, Reply, is_same_name, World, node_of, IsWorld, step, shared_name, Parts, IsAlive, IsDead, IsKept, Lists, closed, contains_head, contains_tail, contains_cases, nothing_in, one_is, contains_one, step_keeps_world, is_listed, tested_same, is_same_name-refl, contains_listed, not_listed, listed_from, Debt, Cycle, IsPushed, IsAllTaken, IsDeadAmong, Event, Why, CycleResult, Watch, IsUntakenName, IsTaken, keys_then, IsOpenedWith, is_done, CanAct, WhyNoAct, AreDone, StopsAt, mutators_of, IsAbsent, IsAgainst, IsLeft, IsResultWith, is_old, MayFree, WhyKept, Can, IsWhy, AreClosed, EveryEventIsJudged, alive_there, Hybrid, AreScanned, IsWatchedIn, IsScanned, beginning, held_names, is_scanned, scanned_at_once, zero, suc, cases_eq, slice_set, IsTook}
+use Rattle.nmgc_barrier_checker.proofs.Vocabulary.{IsBefore, before_trans, not_before_itself, ◌≡◌, ◌≢◌, ◌<◌, ℕ, List, [], ◌∷◌, ◌++◌, length, map, refl, sym, ap, subst, ◌∙◌, arith, Bool, true, false, not, cond, inl, inr, ◌⊎◌, eqb, Contains, IsSome, is_some, filter, ◌&&◌, ◌↔◌, cases_Bool, cases_lt, false≢true, and_cases, and_parts, and_from, not-false, eqb-true, eq-eqb, Contains-append_left, Contains-append_right, Contains-append_cases, Name, MutatorState, Command, Reply, is_same_name, World, node_of, IsWorld, step, shared_name, Parts, IsAlive, IsDead, IsKept, Lists, closed, contains_head, contains_cases, nothing_in, one_is, contains_one, step_keeps_world, is_listed, tested_same, is_same_name-refl, contains_listed, not_listed, listed_from, Debt, Cycle, IsPushed, IsAllTaken, IsDeadAmong, Event, Why, CycleResult, Watch, IsUntakenName, IsTaken, keys_then, IsOpenedWith, is_done, CanAct, WhyNoAct, AreDone, StopsAt, mutators_of, IsAbsent, IsAgainst, IsLeft, IsResultWith, is_old, MayFree, WhyKept, Can, IsWhy, AreClosed, EveryEventIsJudged, alive_there, Hybrid, AreScanned, IsWatchedIn, IsScanned, beginning, held_names, is_scanned, scanned_at_once, zero, suc, cases_eq, slice_set, IsTook}
 use Rattle.nmgc_barrier_checker.specs.declared.event.Event.TheVariants as event
 use Rattle.nmgc_barrier_checker.specs.declared.event.Why.TheVariants as why
 use Rattle.nmgc_barrier_checker.specs.declared.watch.Watch.TheVariants as watch

@@ -1,5 +1,5 @@
 -- The position of a name in an ordered list, and the names of such a list that are met.
-use Rattle.nmgc_barrier_checker.proofs.Vocabulary.{◌≡◌, ◌<◌, ◌≤◌, ◌+◌, ℕ, zero, suc, List, [], ◌∷◌, ◌++◌, length, take, get_or, set, inl, inr, refl, false≢true, sym, ap, subst, ◌∙◌, arith, Bool, true, false, Contains, cases_lt, eqb_tells, get_or_default, get_or-set_same, get_or-set_other, Contains-append_left, Contains-append_right, Contains-append_cases, Name, IsBefore, IsInOrder, before_trans, not_before_itself, in_order_first, in_order_rest, one_is, contains_one, StandsAt, IsBetween, IsPlaceOf, AreMet, length-set, nothing_in, contains_cases}
+use Rattle.nmgc_barrier_checker.proofs.Vocabulary.{◌≡◌, ◌<◌, ◌+◌, ℕ, zero, suc, List, [], ◌∷◌, ◌++◌, length, take, get_or, set, inl, inr, false≢true, sym, ap, subst, ◌∙◌, arith, Bool, true, false, Contains, cases_lt, eqb_tells, get_or_default, get_or-set_same, get_or-set_other, Contains-append_left, Contains-append_right, Contains-append_cases, Name, IsBefore, IsInOrder, before_trans, not_before_itself, in_order_first, in_order_rest, one_is, contains_one, StandsAt, IsBetween, IsPlaceOf, AreMet, length-set, nothing_in, contains_cases}
 use Rattle.nmgc_barrier_checker.specs.First.{StandsFirst}
 use Rattle.nmgc_barrier_checker.proofs.Firsts.{stands_at}
 

@@ -1,5 +1,5 @@
 -- Several commands of one line: the effect of the first of them, and the command that stops them.
-use Rattle.nmgc_barrier_checker.proofs.Vocabulary.{◌≡◌, ◌<◌, ◌+◌, ℕ, List, [], ◌∷◌, ◌++◌, zero, suc, length, take, drop, get_or, refl, sym, ap, subst, ◌∙◌, arith, append_assoc, Option, Some, None, true, false, inl, inr, ◌⊎◌, is_some, Command, World, CanApply, step, Why, Copying, Filling, Watch, IsNotDone, is_done, load_of, store_of, write_of, copied, filled, CanAct, WhyNoAct, IsAct, AreDone, StopsAt, AreActed, is_stopped, mutators_of, CanRows, IsAbsent, IsWhy, IsStep, Hybrid}
+use Rattle.nmgc_barrier_checker.proofs.Vocabulary.{◌≡◌, ◌<◌, ◌+◌, ℕ, List, [], ◌∷◌, ◌++◌, suc, length, take, drop, get_or, refl, sym, ap, subst, ◌∙◌, arith, append_assoc, Option, Some, None, true, false, inl, inr, ◌⊎◌, is_some, Command, World, CanApply, step, Why, Copying, Filling, Watch, IsNotDone, is_done, load_of, store_of, write_of, copied, filled, CanAct, WhyNoAct, IsAct, AreDone, StopsAt, AreActed, is_stopped, mutators_of, CanRows, IsAbsent, IsWhy, IsStep, Hybrid}
 use Rattle.std.proofs.Common.{Result, Ok, Err}
 use Rattle.nmgc_barrier_checker.proofs.Firsts.{split_at}
 use Rattle.std.specs.Prelude.{IfOk}

@@ -1,5 +1,5 @@
 -- The fields that two worlds both have, noted position by position.
-use Rattle.nmgc_barrier_checker.proofs.Vocabulary.{◌≡◌, ◌<◌, ◌≤◌, ◌+◌, ℕ, List, [], ◌++◌, ap, arith, Option, Some, None, true, inl, inr, Contains, option_to_list, Contains-append_left, Contains-append_right, Contains-append_cases, cases_eq, Name, World, nothing_in, one_is, contains_option, Field, stands_in}
+use Rattle.nmgc_barrier_checker.proofs.Vocabulary.{◌≡◌, ◌<◌, ◌≤◌, ◌+◌, ℕ, List, ◌++◌, ap, arith, Option, Some, None, true, inl, inr, Contains, option_to_list, Contains-append_left, Contains-append_right, Contains-append_cases, cases_eq, Name, World, nothing_in, one_is, contains_option, Field, stands_in}
 
 option_is : (o : Option Field) (f : Field) → Contains (option_to_list o) f → o ≡ Some f
 option_is None f c = absurd (nothing_in f c)

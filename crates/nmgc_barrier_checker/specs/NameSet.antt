@@ -1,5 +1,5 @@
 -- Names of a snapshot: a list that has each once, and a set of the same names.
-use Rattle.std.specs.Prelude.{◌≡◌, ◌↔◌, ◌⊎◌, List, [], ◌∷◌, ◌++◌, not, ◌&&◌, is_some, IsSome, Contains, if◌then◌else◌}
+use Rattle.std.specs.Prelude.{◌↔◌, ◌⊎◌, List, [], ◌∷◌, ◌++◌, not, ◌&&◌, is_some, IsSome, Contains, if◌then◌else◌}
 use Rattle.nmgc_world_spec.specs.{declared.value.Name.Name, World.World, World.node_of}
 use Rattle.nmgc_graph.specs.Marks.{HasPlaces, IsMarked, mark_of, with_mark}
 use Rattle.nmgc_barrier_checker.specs.declared.name_set.NameSet.{NameSet}

@@ -1,5 +1,5 @@
 -- Several commands in one line: a copy of many fields, and a fill.
-use Rattle.std.specs.Prelude.{◌≡◌, ◌+◌, ◌-◌, ◌^◌, min, ℕ, zero, suc, List, [], ◌∷◌, ◌++◌, Bool, true, false, if◌then◌else◌}
+use Rattle.std.specs.Prelude.{◌+◌, ◌-◌, ◌^◌, min, ℕ, zero, suc, List, [], ◌∷◌, ◌++◌, Bool, true, false, if◌then◌else◌}
 use Rattle.nmgc_world_spec.specs.declared.command.Operand.TheVariants as operand
 use Rattle.nmgc_world_spec.specs.{declared.command.Command.Command, declared.command.Reply.Reply}
 use Rattle.nmgc_world_spec.specs.declared.command.Command.TheVariants as command

@@ -1,5 +1,5 @@
 -- When an event can happen, and why it can't: by the heap and the lax rule alone.
-use Rattle.std.specs.Prelude.{◌≡◌, ◌≤◌, ◌↔◌, ◌⊎◌, ◌++◌, ℕ, List, [], ◌∷◌, length, map, slice_index_or, Option, Some, None, Result, Ok, Err, IsSome, Contains, Bool, true, false, ◌||◌, ltb, ◌<◌}
+use Rattle.std.specs.Prelude.{◌≡◌, ◌↔◌, ◌⊎◌, ◌++◌, ℕ, List, [], ◌∷◌, length, map, slice_index_or, Option, Some, None, Result, Ok, Err, IsSome, Contains, Bool, true, false, ◌||◌, ltb, ◌<◌}
 use Rattle.nmgc_world_spec.specs.{declared.value.Name.Name, declared.command.Command.Command, declared.command.Reply.Reply, declared.mutator_state.MutatorState.MutatorState, World.World, World.node_of, World.is_same_name, World.step, World.shared_name, Known.IsWorld, Known.CanApply, Reach.Lists, Reach.IsKept}
 use Rattle.nmgc_snapshot_laws.specs.declared.event.Event.TheVariants as core
 use Rattle.nmgc_snapshot_laws.specs.{State.State, Machine.IsPossible, Closing.IsClosing}
@@ -328,8 +328,8 @@ abbrev pub IsMissingIf : List Name → List Name → Option Name → Type 0
 IsMissingIf names others None = (name : Name) → Contains others name → Contains names name
 IsMissingIf names others (Some name) = IsMissing names others name
 
--- the reason why the runtime can't have marked exactly these names: there was no cycle, a cycle goes on, or a kept name isn't
--- reported. If all are reported: a reported name isn't kept. In both cases it is the first such name
+-- the reason why the runtime can't have marked exactly these names: there was no cycle, or a cycle goes on. Else the first name
+-- that is kept and isn't reported, or if there is none, the first that is reported and isn't kept
 abbrev pub WhyMarked : List Name → Watch → Why → Type 0
 WhyMarked names (watch.Between w) y = y ≡ why.Misplaced
 WhyMarked names (watch.Marking h) y = y ≡ why.Misplaced
@@ -356,8 +356,8 @@ CanFreed names (watch.Marking h) next = ⊥
 CanFreed names (watch.Ended left) next = ((name : Name) → Contains names name → MayFree left name) × (next ≡ watch.Ended left)
 CanFreed names watch.Stopped next = ⊥
 
--- the reason why a name can't have been freed: the heap doesn't have it. If the heap has it: it was made since the snapshot,
--- or else it is needed
+-- the reason why a name can't have been freed, the first of these that holds: the heap doesn't have it, it was made since the
+-- snapshot, or it is needed
 abbrev pub WhyKept : CycleResult → Name → Why → Type 0
 WhyKept left name y = ((y ≡ why.NoSuchName name) × (IsSome (node_of left.world name) → ⊥)) ⊎ (IsSome (node_of left.world name) ×
     (((y ≡ why.NotOld name) × (IsOld left name → ⊥)) ⊎ ((y ≡ why.Needed name) × IsOld left name × Contains left.needed name)))

@@ -1,9 +1,9 @@
 //! The debts of each mutator. A debt is a name that a mutator's command made due, with the command's line. It is unpaid until
 //! the name is pushed. Each mutator has a queue of its debts, in the order in which they came, and the set of the names that
 //! came due by it so far. So a name enters a queue at most once, and all queues together take memory for each name and
-//! mutator. No debt has a greater line than `newest`. Paid debts leave a queue from the front (`forget_paid`), so a mutator settles in amortised constant time,
-//! whatever other mutators owe. A reason is about the earliest unpaid debt: of the least line and, of that line, of the first
-//! name.
+//! mutator. No debt has a greater line than `newest`. Paid debts leave a queue from the front (`forget_paid`), so a mutator
+//! settles in amortised constant time, whatever other mutators owe. A reason is about the earliest unpaid debt. It has the
+//! least line and, among debts of that line, the first name.
 //!
 //! Easy to get wrong: two mutators may owe the same name, if commands of both made it due.
 ghost use Rattle.std.specs.Prelude.{◌≡◌, ◌⊎◌, ◌↔◌, ◌<◌, ◌∷◌, ◌++◌, List, [], false, leb, length, replicate, IsTrue, IfOk, OnOk, OnErr, All, Contains, Some, None};

@@ -218,8 +218,8 @@ impl Watch {
     /// due is added to `dues`: each command counts a name once, pushed or not. After `NoMemory` the watch may be in any state.
     ///
     /// A push, a take and a settled mutator take amortised constant time, and a scan for each register. A command, alone or
-    /// among several in a line, takes that time for each operand, each field of an object that it makes, and each field that
-    /// it may remove. The beginning of a cycle and the stop take time for each object, and the end of a cycle for each object
+    /// among several in a line, takes amortised constant time for each operand and each field of an object that it makes. It
+    /// also takes the time of a sort for the names that it may make due. The beginning of a cycle and the stop take time for each object, and the end of a cycle for each object
     /// and each field. A report of marked names takes time for each kept name, and each reported name a binary search. Memory
     /// grows with the heap alone. A cycle has two worlds (or three, as it begins or ends), and a few bytes for each name and
     /// mutator.

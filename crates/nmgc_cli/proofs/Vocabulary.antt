@@ -10,7 +10,7 @@ pub use Rattle.nmgc_limits.specs.{Limits.most_script_bytes, declared.mutators.Th
 pub use Rattle.nmgc_object.specs.Words.{IsName}
 pub use Rattle.nmgc_pmark.specs.{Claims.AreClaims, Claims.IsStopped, Claims.Stopped, Stops.IsStoppedAs, Stops.StopsAreStopped, Stops.root_words, Strong.IsStrong, Strong.roots_of, Strong.RootsStartStrongReach}
 pub use Rattle.nmgc_retain.specs.{Paths.retained_text, Paths.IsRight, declared.path.Retained.Retained}
-pub use Rattle.nmgc_run_laws.specs.{Sound.IsRunnable, laws.Common.places_low, laws.Crowding.runnable_of, laws.Lefts.stop_left, laws.Limits.scripts_have_good_plans, laws.Limits.states_are_within, laws.Places.blocks_at_stop, laws.Programs.slice_few, laws.Runs.states_are_sound, laws.Ends.heap_at_stop}
+pub use Rattle.nmgc_run_laws.specs.{Sound.IsRunnable, laws.Common.places_low, laws.Crowding.in_limits_fit, laws.Crowding.runnable_of, laws.Lefts.stop_left, laws.Limits.scripts_have_good_plans, laws.Limits.states_are_within, laws.Places.blocks_at_stop, laws.Programs.slice_few, laws.Runs.states_are_sound, laws.Ends.heap_at_stop}
 pub use Rattle.nmgc_run_spec.specs.{Lawful.IsHeapFull, Lawful.IsRunOf, Lawful.IsLawful, Terms.registers_of, Heap.snapshots, Run.IsRound, Run.AreTurns, Run.Turn, Run.last_state, Run.state_after, Run.rest_of, Run.slice_of, Run.slices, Run.Plan, Run.State, Run.layout_of, Run.plan_of, Run.start}
 pub use Rattle.nmgc_script.specs.{Spelling.bench_script, Spelling.IsInLimits, Spelling.most_bytes, Spelling.upgraded, Spelling.Spells, Spelling.kept_lines, Results.IsFaultOf, declared.script.Config.Config, declared.fault.ScriptFault.ScriptFault, declared.script.Script.Script, laws.Versions.lines_few, laws.Versions.threads_few, Parts.HasFewCommands, Parts.plain}
 pub use Rattle.nmgc_world_spec.specs.{Reach.Lists, Reach.Row, World.World, declared.command.Command.Command, declared.command.Reply.Reply, declared.value.Name.Name, declared.value.Value.Value}

@@ -7,7 +7,7 @@ pub use Rattle.nmgc_cycle.specs.{Asking.CanAsk, Asking.CanAskAll, Asking.HasAske
 pub use Rattle.nmgc_cycle.specs.declared.{collector.Collector.Collector, progress.Marking.Marking, progress.Progress.Progress as Doing, progress.Sweeping.Sweeping, stop.StopEnd.StopEnd, worker.Worker.Worker}
 pub use Rattle.nmgc_heap_spec.specs.{Changes.AreEarlier, Emptied.emptied, Moves.Copies, Moves.Moved, Moves.new_place, Moves.old_place, Moves.settled, Objects.ListMeans, Objects.Place, Objects.shared_place, Objects.header_of, Objects.size_of, Changes.IsEarlier, Represents.NoNode, Represents.Represents, Roots.ListsWeaks, Roots.RepresentsRoots, Tracked.IsTracked, laws.CommandLaws.closing_keeps_earlier, laws.CommandLaws.closing_tracks, laws.CommandLaws.world_is_earlier, laws.Kinds.map_item, laws.Moving.settled_cases, laws.Moving.settled_comes, laws.Roots.tracked_wide, laws.Roots.wide_tracked}
 pub use Rattle.nmgc_journal.specs.{contracts.report.Phase.the_type, declared.report.CycleRow.CycleRow, declared.report.End.End, declared.report.End.TheVariants.HeapFull, declared.report.MutatorEnd.MutatorEnd, declared.report.Phase.Phase, declared.report.Phase.TheVariants.Idle, declared.report.RoundRows.RoundRows, declared.report.StopRow.StopRow, declared.report.Report.Report}
-pub use Rattle.nmgc_limits.specs.{Limits.most_script_bytes, Limits.most_slice, declared.mutators.TheConstants.MAKERS, declared.mutators.TheConstants.REGISTERS, declared.mutators.TheConstants.SHARED_MAKER, declared.mutators.TheConstants.SHARED_SLOTS}
+pub use Rattle.nmgc_limits.specs.{Limits.most_slice, declared.mutators.TheConstants.MAKERS, declared.mutators.TheConstants.REGISTERS, declared.mutators.TheConstants.SHARED_MAKER, declared.mutators.TheConstants.SHARED_SLOTS}
 pub use Rattle.nmgc_lists.specs.{Room.Room, laws.Items.contains_cases, laws.Items.contains_filter as filter_keeps, laws.Items.contains_flat, laws.Items.contains_head, laws.Items.contains_map, laws.Items.contains_tail, laws.Items.filter_contains as filter_had, laws.Items.flat_contains, laws.Items.is_some_of, laws.Items.item, laws.Items.item_map, laws.Items.map_contains, laws.Items.nothing_in, laws.Items.of_item, laws.Items.place_of as place_in, laws.Items.slice_get-append_last as last_item, laws.Items.slice_get-set_other as set_other, laws.Items.slice_get-set_same as set_here, laws.Items.some_wait, laws.Truths.eq_true as true_eq, laws.Truths.or_second as or_true}
 pub use Rattle.nmgc_mark.specs.{Beginning.IsBeginning, Beginning.IsPrepared, Beginning.most_blocks, Marker.HasMarked, Marker.HasRoomToMark, Marker.StandAsBefore, Marker.blank, Seen.MarkerSeen, Seen.WorkSeen, Stopped.IsReady, Tie.IsTied, Tie.IsTied as IsTiedByPlaces, Tie.with_places, Work.marks_seen, declared.marker.Work.Work}
 pub use Rattle.nmgc_minor.specs.{Placing.moved_of, Promotion.IsFor, Start.words_of, declared.placing.Move.Move, laws.Common.names_twice as names_moved}
@@ -15,9 +15,9 @@ pub use Rattle.nmgc_mutator.specs.{Does.HasDone, Does.IsYield, Does.remembered, 
 pub use Rattle.nmgc_name_lists.specs.laws.Order.{ordered_once}
 pub use Rattle.nmgc_object.specs.{FinQueue.FinQueue, Words.InSegment, Words.nursery_place, Words.reserve_count, Words.word_total, Words.block_size, Words.header_word, Words.name_word, Layouts.IsLayout, declared.layout.Layout.Layout, declared.layout.Nursery.Nursery, declared.layout.TheConstants.FIRST_PLACE, declared.layout.TheConstants.SHARED_PLACE, declared.size.TheConstants.HEADER_WORDS, declared.size.TheConstants.MIN_BLOCK_WORDS, declared.size.TheConstants.NAME_OFFSET, declared.words.Address.Address, declared.words.Header.Header, declared.words.TheConstants.NIL_WORD, laws.Common.in_segment_low as segment_low}
 pub use Rattle.nmgc_round.specs.{Empty.empty_array, Empty.first_opening, Events.rows_in, Finishing.HasAll, Finishing.IsFinished, Finishing.Leaves, Finishing.places_then, Gate.passed, Marking.Marks, Marking.marks_after, Marking.marks_of, Marking.name_at, Marking.with_name, Naming.AllReply, Objects.earlier, Rule.now, Seat.IsAt, Seat.RoundSeat, Seat.opening_of, Seat.seen as seat_seen, Seating.all_together, Seating.alone, Seating.alones, Seating.collecting, Starting.CanOpen, View.DoneRow, View.FixedWord, View.Hand, View.Opening, View.Part, View.Scan, View.Seen, View.Seen as View, View.hand_of, View.no_hand, View.whole, declared.table.Round.Round, laws.Common.alones_count}
-pub use Rattle.nmgc_run_laws.specs.{Course.CyclesBeginInCourse, Course.IsInCourse, Course.IsLastBegun, Course.IsStateInCourse, Limits.HasGoodPlan, Places.BlocksArePlaces, Sound.AreSoundBlocks, Sound.IsAble, Sound.IsInCycle, Sound.IsOfSnapshot, Sound.IsRunnable, Sound.IsSoundRound, Sound.IsSoundState, Sound.LieKnown, Sound.WaitKnown, Statements.answered_count, laws.Closings.one_more, laws.Common.places_low, laws.Course.SameWait, laws.Course.all_placing_waits, laws.Course.none_retired as none_then, laws.Course.promotions_stay, laws.Course.rounds_stay, laws.Course.runs_are, laws.Crowding.few_in_each, laws.Crowding.lawful_are_of_runs, laws.Crowding.runnable_of, laws.Filing.begun_filed, laws.Filing.each_filed, laws.Filing.places_filed, laws.Filing.retired_filed, laws.Lefts.left_is_determined, laws.Lefts.round_left, laws.Lefts.slice_count, laws.Lefts.stop_left, laws.Limits.scripts_have_good_plans, laws.Places.block_used, laws.Places.blocks_at_stop, laws.Programs.slice_few, laws.Runs.opening_worked, laws.Runs.rounds_are_sound, laws.Runs.start_programs, laws.Runs.states_are_sound, laws.States.known_then, laws.Stops.young_fresh, laws.Sweeps.each_lie, laws.Sweeps.each_waits, laws.Sweeps.sweeps_keep, laws.Tracks.tracked_fewer, laws.Tracks.tracked_itself, laws.Tracks.tracked_known, laws.Turns.last_is_of_turn, laws.Turns.a_run_takes_a_further_round, laws.Turns.one_more_turn, laws.Ends.stop_is_lawful, Longer.MayGoOn, Longer.longer, Longer.longer_plan, Longer.longer_run, Longer.longer_state, laws.Longer.count_longer, laws.Longer.layout_longer, laws.Longer.runs_are_of_longer, laws.SerialRuns.serials_are_few}
+pub use Rattle.nmgc_run_laws.specs.{Course.CyclesBeginInCourse, Course.IsInCourse, Course.IsLastBegun, Course.IsStateInCourse, Limits.FitsRun, Limits.HasGoodPlan, Limits.most_commands, Places.BlocksArePlaces, Sound.AreSoundBlocks, Sound.IsAble, Sound.IsInCycle, Sound.IsOfSnapshot, Sound.IsRunnable, Sound.IsSoundRound, Sound.IsSoundState, Sound.LieKnown, Sound.WaitKnown, Statements.answered_count, laws.Closings.one_more, laws.Common.places_low, laws.Course.SameWait, laws.Course.all_placing_waits, laws.Course.none_retired as none_then, laws.Course.promotions_stay, laws.Course.rounds_stay, laws.Course.runs_are, laws.Crowding.few_in_each, laws.Crowding.in_limits_fit, laws.Crowding.lawful_are_of_runs, laws.Crowding.runnable_of, laws.Filing.begun_filed, laws.Filing.each_filed, laws.Filing.places_filed, laws.Filing.retired_filed, laws.Lefts.left_is_determined, laws.Lefts.round_left, laws.Lefts.slice_count, laws.Lefts.stop_left, laws.Limits.scripts_have_good_plans, laws.Places.block_used, laws.Places.blocks_at_stop, laws.Programs.slice_few, laws.Runs.opening_worked, laws.Runs.rounds_are_sound, laws.Runs.start_programs, laws.Runs.states_are_sound, laws.States.known_then, laws.Stops.young_fresh, laws.Sweeps.each_lie, laws.Sweeps.each_waits, laws.Sweeps.sweeps_keep, laws.Tracks.tracked_fewer, laws.Tracks.tracked_itself, laws.Tracks.tracked_known, laws.Turns.last_is_of_turn, laws.Turns.a_run_takes_a_further_round, laws.Turns.one_more_turn, laws.Ends.stop_is_lawful, Longer.MayGoOn, Longer.longer, Longer.longer_plan, Longer.longer_run, Longer.longer_state, laws.Longer.count_longer, laws.Longer.layout_longer, laws.Longer.runs_are_of_longer, laws.SerialRuns.serials_are_few}
 pub use Rattle.nmgc_run_spec.specs.{Run.ClosesNow, Run.ClosesOrWaits, Run.IsForcedSoon, Run.IsSoon, Run.IsRound, Run.answered, Run.noted, Run.AreTurns, Run.IsRun, Run.IsTurn, Run.Run, Run.AreRowsOf, Run.Turn, Run.last_state, Run.state_after, Run.ends_slice, Run.has_left, Run.is_collect, Run.is_full, Run.rest_of, Run.slice, Run.slice_of, Run.slices, Run.Plan, Run.Progress, Run.State, Run.cycle_started, Run.free_count, Run.free_count as run_free, Run.idle, Run.is_idle, Run.layout_of, Run.marking, Run.next_cycle, Run.phase_of, Run.plan_of, Run.start, Run.sweeping, Run.BeginsOrWaits, Run.DoesFullCycle, Run.EndsOrWaits, Run.Finishes, Run.IsCensus, Run.IsCycleDue, Run.IsFullDue, Run.IsStop, Run.IsSwept, Run.Proceeds, Run.Promotes, Run.answer_of, Run.is_short, Run.stop_row, Lawful.FitBlocks, Terms.HasAllRegisters, Heap.HeapStandsFor, AfterRound.HoldsAfterRound, Heap.HoldsAtStop, Terms.queues_of, Terms.registers_of, Terms.serials_of, Heap.snapshots, Terms.SweepsBeside, Terms.own_rows, AfterRound.with_turn, Terms.is_next, AfterRound.program_of, Terms.some_asks, Terms.reserve_of, Terms.waiting_count, Terms.SweepsRest, Terms.is_done, Terms.with_all_retired, AtStop.IsLawfulAtStop, Lawful.IsRunOf}
-pub use Rattle.nmgc_script.specs.{Spelling.IsInLimits, declared.script.Config.Config, declared.script.Script.Script, laws.Versions.segments_few, laws.Versions.threads_few, laws.Versions.total_few}
+pub use Rattle.nmgc_script.specs.{declared.script.Config.Config, declared.script.Script.Script, laws.Versions.segments_few, laws.Versions.threads_few, laws.Versions.total_few}
 pub use Rattle.nmgc_segment.specs.{Marks.IsEpoch, Marks.epoch_of, Segment.Segment, Segment.free_segment, Segment.mark_of, laws.Common.epoch_sound}
 pub use Rattle.nmgc_snapshot_laws.specs.State.{State as Core, opening, unmarked}
 pub use Rattle.nmgc_sweep.specs.{NameTable.AreNamed, NameTable.HaveEntries, NameTable.HaveNoted, NameTable.entry_of, NameTable.named_at, Statements.ClosingBeginsWork, Statements.EndShowsCensus, Statements.IsClosedNow, Statements.KeepsWaiting, Statements.LeftIsCounted, Statements.LeftStays, Statements.StartNotesSegments, Statements.ShowsCensus, Sweeper.AreLeft, Sweeper.HasNotes, Sweeper.Sweeper, Sweeper.turned, Sweeping.IsSweeping, Work.HasBegun, Work.IsAtWork, laws.NameTable.low_entry, laws.NameTable.named_begun, laws.NameTable.named_first, laws.NameTable.named_noted, laws.NameTable.named_retired, laws.NameTable.named_swept, laws.NameTable.one_noted}
@@ -26,7 +26,7 @@ pub use Rattle.nmgc_weak.specs.{Closes.DeathsHaveRoom, Closes.LeavingLists, Queu
 pub use Rattle.nmgc_world_laws.specs.{Reachable.IsSound, laws.Deaths.closed_mutators, laws.Deaths.closed_names, laws.Deaths.closed_serials, laws.Deaths.closed_world, laws.HeldSteps.absent, laws.NewWorlds.each_new, laws.NewWorlds.new_is_world, laws.NewWorlds.new_nodes, laws.NodeLaws.get-append_cases, laws.Reached.world_holds, laws.Weaks.not_array as no_weak, laws.Weaks.weak_maker, laws.Worlds.refill_whole}
 pub use Rattle.nmgc_world_spec.specs.{World.Fits, World.words_made, World.shared_name, World.World, World.new_mutator, World.new_world, World.node_of, World.serial_of, Reach.IsLegal, Reach.IsOrderOf, Reach.Row, Reach.replayed, Reach.rows_of, Reach.Ascends, Reach.Counts, Reach.IsAlive, Reach.IsAliveWeak, Reach.IsBefore, Reach.IsInOrder, Reach.closed, Known.IsWorld, declared.command.Command.Command, declared.command.Command.TheVariants.Collect, declared.command.Command.TheVariants.Full, declared.command.Command.TheVariants.Yield, declared.command.Reply.Reply, declared.mutator_state.MutatorState.MutatorState, declared.node.Node.Node, declared.node.Node.TheVariants.Arr, declared.node.Node.TheVariants.Con, declared.node.Node.TheVariants.Stack, declared.node.Node.TheVariants.Thunk, declared.node.Node.TheVariants.Var, declared.node.Node.TheVariants.Weak, declared.node.Parts.Parts, declared.value.Name.Name, declared.value.Value.Value, declared.value.Value.TheVariants.Nil, laws.Orders.in_order_cons, laws.Orders.in_order_first, laws.Orders.in_order_rest, World.HasRegistersBelow}
 pub use Rattle.std.proofs.{Common.Bool, Common.Global, Common.IsTrue, Common.List, Common.None, Common.Option, Common.Some, Common.[], Common.add-one, Common.ap, Common.append-nil, Common.append_assoc, Common.arith, Common.cond, Common.drop, Common.drop-cons, Common.eqb, Common.false, Common.get_or, Common.inl, Common.inr, Common.length, Common.length-append, Common.length-set, Common.map, Common.min, Common.mul-le-mul_right, Common.refl, Common.replicate, Common.rules, Common.set, Common.slice_index, Common.slice_index_or, Common.subst, Common.suc, Common.sym, Common.take, Common.true, Common.vec_capacity, Common.vec_len, Common.zero, Common.ℕ, Common.◌*◌, Common.◌++◌, Common.◌+◌, Common.◌-◌, Common.◌<◌, Common.◌^◌, Common.◌↔◌, Common.◌∙◌, Common.◌∷◌, Common.◌≡◌, Common.◌≢◌, Common.◌≤◌, Common.◌⊎◌, Math.ListN.get_or-map, Math.ListN.length-replicate, Common.take_at, Math.Seq.drop-append-le, lemmas.List.take-append-drop, lemmas.Option.slice_get_read, Common.drop_at}
-pub use Rattle.std.proofs.lemmas.{Bool.and_parts, Bool.cases_eq, Bool.cases_lt, Bool.eq-eqb, Bool.eqb-true, Bool.false≢true, Bool.le-leb, Bool.le-ltb, Bool.lt-ltb, Bool.ltb-false, Bool.ltb-true, Bool.ne_eqb, Grind.common_steps, Grind.flat_map-append, List.append_cancel_left, List.drop-drop, List.drop_all, List.get_or-append-add, List.get_or-append_right, List.get_or-replicate, List.get_or-set_other, List.get_or-set_same, List.get_or_append_left, List.get_or_default, List.get_or_past, List.length-drop, List.length-map, List.length-take-le, List.map-append, List.nil_from_length, List.set-get_or, List.set-set, List.take_all, List.take_more, List.with_items_is, List.Edits.map_over_more, List.Elements.All-append, List.Elements.All-cons, List.Elements.All-drop, List.Elements.All-get_or, List.Elements.All-head, List.Elements.All-nil, List.Elements.All-replicate, List.Elements.All-tail, List.Elements.Contains-get_or, List.Folds.Any-from_list_any, List.Folds.list_any_at, List.Sums.count_by-le-length, List.Sums.length-filter, List.Sums.sum_by-cons, Option.get_or_from_slice_get, Option.slice_get-get_or, Option.slice_get-map, Option.slice_get_within, Result.on_ok_weaker}
-pub use Rattle.std.specs.{List.flat_map, List.list_any, List.refill, Prelude.All, Prelude.Contains, Prelude.Err, Prelude.IfSome, Prelude.IsSome, Prelude.Ok, Prelude.OnOk, Prelude.Result, Prelude.count_by, Prelude.filter, Prelude.if◌then◌else◌, Prelude.is_some, Prelude.nat_le, Prelude.nat_lt, Prelude.not, Prelude.option_map, Prelude.slice_get, Prelude.slice_set, Prelude.◌&&◌, Prelude.◌/◌, Prelude.◌==◌, Prelude.◌||◌, Vec.with_items, VecDeque.deque_capacity, VecDeque.deque_len, declared.vec.Vec.Vec, Prelude.IfNone, Prelude.IfOk, Prelude.option_to_list}
+pub use Rattle.std.proofs.lemmas.{Bool.and_parts, Bool.cases_eq, Bool.cases_lt, Bool.eq-eqb, Bool.eqb-true, Bool.false≢true, Bool.le-leb, Bool.le-ltb, Bool.lt-ltb, Bool.ltb-false, Bool.ltb-true, Bool.ne_eqb, Grind.common_steps, Grind.flat_map-append, List.Sums.sum_by-cons, List.append_cancel_left, List.drop-drop, List.drop_all, List.get_or-append-add, List.get_or-append_right, List.get_or-replicate, List.get_or-set_other, List.get_or-set_same, List.get_or_append_left, List.get_or_default, List.get_or_past, List.length-drop, List.length-map, List.length-take-le, List.map-append, List.nil_from_length, List.set-get_or, List.set-set, List.take_all, List.take_more, List.with_items_is, List.Edits.map_over_more, List.Elements.All-append, List.Elements.All-cons, List.Elements.All-drop, List.Elements.All-get_or, List.Elements.All-head, List.Elements.All-nil, List.Elements.All-replicate, List.Elements.All-tail, List.Elements.Contains-get_or, List.Folds.Any-from_list_any, List.Folds.list_any_at, List.Sums.count_by-le-length, List.Sums.length-filter, List.Sums.sum_by-cons, Option.get_or_from_slice_get, Option.slice_get-get_or, Option.slice_get-map, Option.slice_get_within, Result.on_ok_weaker}
+pub use Rattle.std.specs.{List.flat_map, List.list_any, List.refill, Prelude.All, Prelude.Contains, Prelude.Err, Prelude.IfSome, Prelude.IsSome, Prelude.Ok, Prelude.OnOk, Prelude.Result, Prelude.count_by, Prelude.filter, Prelude.if◌then◌else◌, Prelude.is_some, Prelude.nat_le, Prelude.nat_lt, Prelude.not, Prelude.option_map, Prelude.slice_get, Prelude.slice_set, Prelude.sum_by, Prelude.◌&&◌, Prelude.◌/◌, Prelude.◌==◌, Prelude.◌||◌, Vec.with_items, VecDeque.deque_capacity, VecDeque.deque_len, declared.vec.Vec.Vec, Prelude.IfNone, Prelude.IfOk, Prelude.option_to_list}
 pub use denote.Enum.Bare.{same_false, same_true}
 unfoldable pub use Rattle.nmgc_cycle.specs.Bound.{commands_left}

@@ -5,11 +5,11 @@
 -- shorter script's run is at a stop of the longer script's run too (`stops_are_of_longer`).
 use Rattle.std.specs.Prelude.{ℕ, zero, suc, ◌≡◌, ◌⊎◌, ◌+◌, ◌<◌, ◌≤◌, ◌*◌, List, [], ◌∷◌, ◌++◌, length, map, All, Option, Some, slice_get, slice_index, option_to_list, flat_map, min, replicate, slice_index_or}
 use Rattle.nmgc_world_spec.specs.{declared.command.Command.Command, declared.command.Reply.Reply, World.Fits}
-use Rattle.nmgc_limits.specs.{Limits.most_script_bytes, declared.mutators.TheConstants.MAKERS}
-use Rattle.nmgc_script.specs.{declared.script.Config.Config, declared.script.Script.Script, Spelling.FitsConfig, Spelling.IsInLimits, Parts.total_words, Spelling.version_3}
+use Rattle.nmgc_limits.specs.declared.mutators.TheConstants.{MAKERS}
+use Rattle.nmgc_script.specs.{declared.script.Config.Config, declared.script.Script.Script, Spelling.FitsConfig, Parts.total_words, Spelling.version_3}
 use Rattle.nmgc_journal.specs.{declared.report.Report.Report, declared.report.RoundRows.RoundRows}
 use Rattle.nmgc_run_spec.specs.{Lawful.IsRunOf, AfterRound.program_of}
-use Rattle.nmgc_run_laws.specs.Longer.{longer}
+use Rattle.nmgc_run_laws.specs.{Limits.FitsRun, Limits.most_commands, Longer.longer}
 use Rattle.nmgc_collector_laws.specs.Worked.{Done}
 use Rattle.nmgc_round.specs.{declared.table.Round.Round, View.Opening}
 use Rattle.nmgc_mutator.specs.{declared.mutator.Mutator.Mutator, declared.program.Listed.Listed, Programs.Gives, Programs.Follows, Slice.HasRoom}
@@ -59,19 +59,19 @@ pub record FollowEach {P : Type 0} (next : P → Option Command) (script : Scrip
   pub count : length programs ≡ length script.threads
   pub each : (k : ℕ) (p : P) → slice_get programs k ≡ Some p → Follows (next p) (left_at script positions k)
 
--- whatever the programs give in a round, the script with some more commands has it, and is within the limits
+-- whatever the programs give in a round, the script with some more commands has it, and fits a run
 abbrev pub CanContinue : {P : Type 0} → (P → Option Command) → (P → Reply → P → Type 0) → (P → ℕ) → (P → ℕ) → (P → Type 0) → Script → List ℕ → List P → Type 0
 CanContinue next steps words most valid script positions programs = (after : List _) (done : List (List Done)) →
     GaveEach next steps words most valid programs after done → (more : List (List Command)) × MayBeLonger script positions more ×
-    Continues next (longer_script more script) positions after done × IsInLimits (longer_script more script)
+    Continues next (longer_script more script) positions after done × FitsRun (longer_script more script)
 
--- programs that may be asked: one for each mutator, valid, whose commands fit the segments. With the commands answered they
--- give no more commands than a script may have
+-- programs that may be asked: one for each mutator, valid, whose commands fit the segments. With its commands answered, each
+-- gives no more commands than a run may have
 pub record MayBeAsked {P : Type 0} (words most : P → ℕ) (valid : P → Type 0) (script : Script) (positions : List ℕ) (programs : List P) : Type 0 where
   pub count : length programs ≡ length script.threads
   pub valid_are : (k : ℕ) (p : P) → slice_get programs k ≡ Some p → valid p
   pub fit : (k : ℕ) (p : P) → slice_get programs k ≡ Some p → words p ≤ script.config.words
-  pub few : (k : ℕ) (p : P) → slice_get programs k ≡ Some p → slice_index positions k + most p ≤ most_script_bytes
+  pub few : (k : ℕ) (p : P) → slice_get programs k ≡ Some p → slice_index positions k + most p ≤ most_commands
 
 -- the most further commands of program k, and 0 if there is none
 abbrev pub most_at : {P : Type 0} → (P → ℕ) → List P → ℕ → ℕ
@@ -115,7 +115,7 @@ pub record DidAskSlices {P : Type 0} (next : P → Option Command) (steps : P �
   pub done : List (List Done)
   pub gave : GaveEach next steps words most valid before after done
   pub did : (more : List (List Command)) → MayBeLonger script old.positions.items more →
-      Continues next (longer_script more script) old.positions.items after done → IsInLimits (longer_script more script) →
+      Continues next (longer_script more script) old.positions.items after done → FitsRun (longer_script more script) →
       DidSlices (longer_script more script) o old new
   pub count : length new.mutators.items ≡ length old.mutators.items
   pub positions : (k : ℕ) (d : List Done) → slice_get done k ≡ Some d → slice_index new.positions.items k ≡ slice_index old.positions.items k + length d
@@ -129,7 +129,7 @@ pub record DidAsk {P : Type 0} (next : P → Option Command) (steps : P → Repl
   pub done : List (List Done)
   pub gave : GaveEach next steps words most valid before after done
   pub did : (more : List (List Command)) → MayBeLonger script old.positions.items more →
-      Continues next (longer_script more script) old.positions.items after done → IsInLimits (longer_script more script) →
+      Continues next (longer_script more script) old.positions.items after done → FitsRun (longer_script more script) →
       DidRound (longer_script more script) old new × HaveTried (longer_script more script) old new
   pub positions : (k : ℕ) (d : List Done) → slice_get done k ≡ Some d → slice_index new.positions.items k ≡ slice_index old.positions.items k + length d
   pub rows : RoundRows
@@ -163,13 +163,13 @@ abbrev pub all_replies : List RoundRows → ℕ → List Reply
 all_replies rounds k = flat_map (λ (rows : RoundRows). slice_index_or rows.replies k []) rounds
 
 -- the script of a run so far, before a stop: the commands that each program gave, and then its waiting command. The
--- script is within the limits, a stop may follow, and the programs may be asked. The report's replies are those they took
+-- script fits a run, a stop may follow, and the programs may be asked. The report's replies are those they took
 pub record IsScriptSoFar {P : Type 0} (next : P → Option Command) (steps : P → Reply → P → Type 0) (words most : P → ℕ) (valid : P → Type 0)
     (config : Config) (before : List P) (c : Collector) (after : List P) (script : Script) : Type 0 where
   pub given : List (List Done)
   pub gave : GaveEach next steps words most valid before after given
   pub is : script ≡ script_of next config given after
-  pub limits : IsInLimits script
+  pub limits : FitsRun script
   pub can : CanStop script c
   pub asked : MayBeAsked words most valid script c.positions.items after
   pub positions : (k : ℕ) (d : List Done) → slice_get given k ≡ Some d → slice_index c.positions.items k ≡ length d
@@ -179,7 +179,7 @@ pub record IsScriptSoFar {P : Type 0} (next : P → Option Command) (steps : P �
 abbrev pub HasNoCommands : Config → ℕ → Script → Type 0
 HasNoCommands config count script = script ≡ record { version = version_3.number; config = config; threads = replicate count [] }
 
--- programs that may be run: one to `MAKERS` of them with a heap within the limits of version 3, each with few enough commands
+-- programs that may be run: one to `MAKERS` of them with a heap within the limits of version 3, and few enough commands in all
 pub record MayRun {P : Type 0} (words most : P → ℕ) (valid : P → Type 0) (config : Config) (programs : List P) : Type 0 where
   pub config_fits : FitsConfig version_3.segments config
   pub some : 1 ≤ length programs
@@ -187,13 +187,14 @@ pub record MayRun {P : Type 0} (words most : P → ℕ) (valid : P → Type 0) (
   pub total : total_words config (length programs) ≤ version_3.heap_words
   pub valid_are : (k : ℕ) (p : P) → slice_get programs k ≡ Some p → valid p
   pub fit : (k : ℕ) (p : P) → slice_get programs k ≡ Some p → words p ≤ config.words
-  pub short : (k : ℕ) (p : P) → slice_get programs k ≡ Some p → most p ≤ most_script_bytes
+  pub short : most_total most programs ≤ most_commands
 
--- the promise for every program. The programs gave commands and took the report's replies, and the report is a lawful report
--- of the script that they turned out to have
+-- the promise for programs. They gave commands and took the report's replies, each in order. The report is lawful for the
+-- script of these commands and of each program's next one, which fits a run
 pub record IsRunOfPrograms {P : Type 0} (next : P → Option Command) (steps : P → Reply → P → Type 0) (words most : P → ℕ) (valid : P → Type 0)
     (config : Config) (before after : List P) (report : Report) : Type 0 where
   pub given : List (List Done)
   pub gave : GaveEach next steps words most valid before after given
+  pub limits : FitsRun (script_of next config given after)
   pub run : IsRunOf (script_of next config given after) report
   pub replies : (k : ℕ) (d : List Done) → slice_get given k ≡ Some d → all_replies report.rounds k ≡ replies_to d

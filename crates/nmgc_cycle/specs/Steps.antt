@@ -9,7 +9,8 @@ use Rattle.nmgc_collector_laws.specs.{Collector.Matches, Collector.AreNurseries,
 use Rattle.nmgc_run_laws.specs.{Course.IsStateInCourse, Sound.IsSoundState}
 use Rattle.nmgc_world_spec.specs.Reach.{Counts}
 use Rattle.nmgc_journal.specs.declared.report.CycleRow.{CycleRow}
-use Rattle.nmgc_script.specs.{declared.script.Script.Script, Spelling.IsInLimits}
+use Rattle.nmgc_script.specs.declared.script.Script.{Script}
+use Rattle.nmgc_run_laws.specs.Limits.{FitsRun}
 use Rattle.nmgc_sweep.specs.NameTable.{AreNamed}
 use Rattle.nmgc_cycle.specs.{declared.collector.Collector.Collector, declared.progress.Marking.Marking, declared.progress.Sweeping.Sweeping, Keeps.IsWellFormed, Keeps.Sweeps, Roots.queues_in, Shown.seen, Shown.report_cycles, Shown.words_in}
 use Rattle.nmgc_cycle.specs.declared.progress.Progress.TheVariants as doing
@@ -61,12 +62,12 @@ StandsAt script c s = StandsForState (IsPacedAtStop script.config.quota) IsEmpti
 
 -- adding the remembered entries leaves the state as it is
 abbrev pub AddingLeads : Type 0
-AddingLeads = (script : Script) (old new : Collector) (s : State) → IsInLimits script → StandsPromoted script old s → HasTaken old new →
+AddingLeads = (script : Script) (old new : Collector) (s : State) → FitsRun script → StandsPromoted script old s → HasTaken old new →
     StandsWithin script new s
 
 -- a marker that finished closes its cycle, within the bounds
 abbrev pub FinishingLeads : Type 0
-FinishingLeads = (script : Script) (old new : Collector) (s : State) (k : Cycle) (m : Marking) (w : Sweeping) → IsInLimits script →
+FinishingLeads = (script : Script) (old new : Collector) (s : State) (k : Cycle) (m : Marking) (w : Sweeping) → FitsRun script →
     StandsWithin script old s → s.progress ≡ marking k → old.cycle.progress ≡ doing.Marking m → m.last.empty ≡ true → new.cycle.progress ≡ doing.Sweeping w →
     HasClosed ClosesThen s.number old new →
     IsClosed s.number (words_in old.heap.words) (words_in new.heap.words) old.heap.segments new.heap.segments old.heap.weaks new.heap.weaks
@@ -74,31 +75,31 @@ FinishingLeads = (script : Script) (old new : Collector) (s : State) (k : Cycle)
 
 -- closing leads to the next state by the run's own rule, within its bounds
 abbrev pub ClosingLeads : Type 0
-ClosingLeads = (script : Script) (old new : Collector) (s : State) → IsInLimits script → StandsWithin script old s →
+ClosingLeads = (script : Script) (old new : Collector) (s : State) → FitsRun script → StandsWithin script old s →
     HasClosed ClosesThen s.number old new → (t : State) × ClosesOrWaits script.config.quota s.progress s t × StandsAt script new t
 
 -- an end leads to the next state by the run's own rule, and its row has the census
 abbrev pub EndLeads : Type 0
-EndLeads = (script : Script) (old new : Collector) (s : State) → IsInLimits script → StandsAt script old s → Ends s.number old.cycle.progress old new →
+EndLeads = (script : Script) (old new : Collector) (s : State) → FitsRun script → StandsAt script old s → Ends s.number old.cycle.progress old new →
     (t : State) × (rows : List CycleRow) × EndsOrWaits s.progress s t rows × (report_cycles new ≡ report_cycles old ++ rows) × StandsAt script new t
 
 -- if none is in progress, a cycle that is started is the run's next cycle
 abbrev pub StartingLeads : Type 0
-StartingLeads = (script : Script) (old new : Collector) (s : State) → IsInLimits script → StandsAt script old s → old.cycle.progress ≡ doing.Idle →
+StartingLeads = (script : Script) (old new : Collector) (s : State) → FitsRun script → StandsAt script old s → old.cycle.progress ≡ doing.Idle →
     HasStarted s.number old new → StandsAt script new (record (cycle_started s) { collect = false })
 
 -- a beginning leads to the next state by the run's own rule: if a cycle is due, it begins
 abbrev pub BeginningLeads : Type 0
-BeginningLeads = (script : Script) (old new : Collector) (s : State) → IsInLimits script → StandsAt script old s →
+BeginningLeads = (script : Script) (old new : Collector) (s : State) → FitsRun script → StandsAt script old s →
     Begins script.config.trigger s.number old new → (t : State) × BeginsOrWaits script.config s t × StandsAt script new t
 
 -- The requirements of the steps
 
 -- if the last work of a cycle's marker left nothing, the marker may finish
 abbrev pub CloseReady : Type 0
-CloseReady = (script : Script) (c : Collector) (s : State) → IsInLimits script → StandsWithin script c s →
+CloseReady = (script : Script) (c : Collector) (s : State) → FitsRun script → StandsWithin script c s →
     CanClose (words_in c.heap.words) c.heap.segments c.heap.weaks.list (queues_in c.mutators.items) c.cycle.progress
 
 -- if no cycle is in progress, a cycle may begin
 abbrev pub BeginReady : Type 0
-BeginReady = (script : Script) (c : Collector) (s : State) → IsInLimits script → StandsAt script c s → c.cycle.progress ≡ doing.Idle → CanBegin c
+BeginReady = (script : Script) (c : Collector) (s : State) → FitsRun script → StandsAt script c s → c.cycle.progress ≡ doing.Idle → CanBegin c

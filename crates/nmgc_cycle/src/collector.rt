@@ -19,6 +19,7 @@ ghost use Rattle.nmgc_object.specs.{declared.layout.TheConstants.SHARED_PLACE, d
 ghost use Rattle.nmgc_round.specs.Empty.{IsEmptyHeap};
 ghost use Rattle.nmgc_mutator.specs.{declared.mutator.Mutator.Mutator as MutatorShown, Ready.IsNew};
 ghost use Rattle.nmgc_script.specs.{declared.script.Script.Script as ScriptSeen, Spelling.FitsScript, Spelling.IsInLimits};
+ghost use Rattle.nmgc_run_laws.specs.Limits.{FitsRun};
 ghost use Rattle.nmgc_run_spec.specs.{Run.plan_of, Run.layout_of as planned_layout, Lawful.IsRunOf, AtStop.IsLawfulAtStop};
 ghost use Rattle.nmgc_collector_laws.specs.{Seen.end_of as reported_end, Heaps.seen_mutator};
 ghost use Rattle.nmgc_cycle.specs.{Shown.report_of, Shown.turns_of, Shown.upper_turns_of, Lined.IsLined, Keeps.IsFresh, Keeps.HasEnded};
@@ -231,11 +232,12 @@ fn new_words(alloc: Global, layout: Layout) -> Result<Words, NoMemory>
 impl Collector {
     /// Makes the collector of a script's run, as it is before the first stop: it has no rows, and no command was answered.
     /// Each register and each slot of g is nil, every segment is free, the gate wasn't passed, and each mutator's ring is
-    /// empty. Requires a script within the limits. Takes memory for the table of words and, until it is made, for a list of
-    /// the same length. Segments with marks and names take memory, and so does the promotion of full nurseries. So do the
-    /// workers, the notes of first slices, and a ring of `RING_BLOCKS` blocks for each mutator. A cycle takes its own memory.
+    /// empty. Requires a script within the limits, with at most 2^31 commands in all (`FitsRun`). Takes memory for the table of
+    /// words and, until it is made, for a list of the same length. Segments with marks and names take memory, and so does the
+    /// promotion of full nurseries. So do the workers, the notes of first slices, and a ring of `RING_BLOCKS` blocks for each
+    /// mutator. A cycle takes its own memory.
     pub fn new(alloc: Global, script: &Script) -> Result<Collector, NoMemory>
-        requires { IsInLimits script.now }
+        requires { FitsRun script.now }
         ensures fresh { IfOk result (λ collector. IsFresh script.now collector) }
         ensures mutator_turns { IfOk result (λ collector. (k : ℕ) (m : MutatorShown) → slice_get collector.mutators.items k ≡ Some m → m.turns ≡ 0) }
         ensures turns { IfOk result (λ collector. turns_of collector ≡ 0) }

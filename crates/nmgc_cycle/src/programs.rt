@@ -5,8 +5,8 @@
 //! Only a program with a waiting command can give more. So the next stop's script is longer, and the collector at this stop
 //! is at a stop of the longer script's run too. At the end of the run the report is a lawful report of the last script.
 //!
-//! Every run ends, since each program says how many commands it gives at most (`most`). A command that waits for room is asked
-//! for again in the next round, and the program gives the same command.
+//! Every run ends, since each program says how many commands it gives at most (`most`), and all together at most 2^31. A command
+//! that waits for room is asked for again in the next round, and the program gives the same command.
 //!
 //! Easy to get wrong: a program at its end gives no command in a later round either. Its state doesn't change any more.
 ghost use Rattle.std.specs.Prelude.{IfOk};
@@ -71,12 +71,12 @@ impl Collector {
     ///
     /// The report is a lawful report of a script with this configuration. Program k of the script has the commands that program
     /// k gave, and then its waiting command if it isn't at its end. The replies of mutator k in the report are those
-    /// that program k took, in order. The report ends with `Done` if every program is at its end. It ends with `HeapFull`
-    /// exactly if a full cycle at the last stop left fewer segments free than the reserve, and some command waits.
+    /// that program k took, in order. The report ends with `Done` exactly if every program is at its end. It ends with
+    /// `HeapFull` exactly if a full cycle at the last stop left fewer segments free than the reserve, and some command waits.
     ///
     /// The programs stay the caller's. Even after `NoMemory` each is in the state in which it took its last reply, and gave at
-    /// most its own bound of commands (clause `gave`). Requires a configuration within the limits of version 3, one to `MAKERS`
-    /// valid programs, and few enough commands of each.
+    /// most its own bound of commands (clause `gave`). Requires a configuration within the limits of version 3, and one to
+    /// `MAKERS` valid programs whose bounds sum up to at most 2^31.
     pub fn run_programs<'b, R: Threads + Sync, P: Program, G: Gate>(
         alloc: Global,
         rt: &R,

@@ -7,7 +7,7 @@
 //! the replies taken off the mutators, for the report.
 //!
 //! The opening of the round, with the world that the words represent, exists in proofs alone (`Witness`). So does the script
-//! of the run so far, which has no further commands than each program's next one (`specs/Programs.antt`). The opening is the
+//! of the run so far: of each program it has the commands done and the next one (`specs/Programs.antt`). The opening is the
 //! last state of the run that the collector's rows describe. While a cycle marks, it also has the marking machine to which the
 //! marker is tied (`OpensAt`). The round's `marking` is true then, since only then do mutators owe overwritten references.
 //!
@@ -24,7 +24,7 @@ ghost use Rattle.nmgc_round.specs.Gate.{passed};
 ghost use Rattle.nmgc_mutator.specs.declared.mutator.Mutator.{Mutator as MutatorSeen};
 ghost use Rattle.nmgc_limits.specs.{Limits.most_slice, declared.mutators.TheConstants.MAKERS};
 ghost use Rattle.nmgc_updrem.specs.{Lines.HasMetSo, Rings.AtLine, Rings.HavePolled};
-ghost use Rattle.nmgc_script.specs.Spelling.{IsInLimits};
+ghost use Rattle.nmgc_run_laws.specs.Limits.{FitsRun};
 ghost use Rattle.nmgc_cycle.specs.{Lined.IsLined, Lined.HasMetSender, Lined.HaveLines, Lined.HaveMet, Lined.RememberInOrder, Keeps.HasStopped, Keeps.DidRound, Cycles.CanHelp, Cycles.HasHelped, Cycles.worked_on, Cycles.upper_worked_on, Shown.is_marking_in, Shown.turns_of, Shown.upper_turns_of};
 ghost use Rattle.nmgc_cycle.specs.Working.{HaveRoom, HasLists, AreReserved, OpensAt, HaveTried, asks_of, asks_full_of, done_by, cleared, replies_of};
 ghost use Rattle.nmgc_cycle.specs.{Asking.CanAskAll, Programs.AreListed, Programs.CanContinue, Programs.DidAsk, Programs.DidAskSlices, Programs.GaveSome, Programs.HasAskInbox, Programs.HaveAskRoom, Programs.HaveWorkedAsAsked, Programs.MayBeAsked, Programs.most_at};
@@ -89,7 +89,7 @@ fn opening_of(script: &Witness<Script>, collector: &Collector) -> Witness<Opened
     Witness::of::<(&Witness<Script>, &Collector), AfterStop>(&(script, collector))
 }
 
-// The script of a run that is known before the run.
+// A script that is known before its run.
 struct KnownBefore;
 
 impl<'a> WitnessFor<&'a Script, Script> for KnownBefore {
@@ -98,7 +98,7 @@ impl<'a> WitnessFor<&'a Script, Script> for KnownBefore {
     ghost wanted = { λ about script. script ≡ about.now };
 }
 
-/// Returns the name of a script that is known before the run. It has no bytes.
+/// Returns a witness of a script that is known before its run. A witness has no bytes.
 pub fn known_before(script: &Script) -> Witness<Script>
     ensures { result.value ≡ script.now }
 {
@@ -150,7 +150,7 @@ impl Collector {
         script: &Script,
         gate: &G,
     ) -> Result<(), NoMemory>
-        requires limits { IsInLimits script.now }
+        requires limits { FitsRun script.now }
         requires stopped { HasStopped script.now self.old × (self.old.answered ≡ None) }
         ensures worked { OnOk result (DidRound script.now self.old self.new) }
         ensures reported { OnOk result ((rows : RoundRows) × (self.new.rows.rounds ≡ self.old.rows.rounds ++ rows ∷ [])) }
@@ -189,7 +189,7 @@ impl Collector {
         programs: &mut [P],
         gate: &G,
     ) -> Result<(), NoMemory>
-        requires limits { IsInLimits script.now.value }
+        requires limits { FitsRun script.now.value }
         requires config { config.now ≡ script.now.value.config }
         requires stopped { HasStopped script.now.value self.old × (self.old.answered ≡ None) }
         requires programs { MayBeAsked P.words P.most P.valid script.now.value self.old.positions.items programs.old }
@@ -218,7 +218,7 @@ impl Collector {
         meet_each(&mut self.inbox, self.mutators.as_mut_slice());
     }
 
-    // Does what `round` does, except for `meet_all`: only after `meet_all` is the order of the remembered entries known.
+    // Does what `round_programs` does, except for `meet_all`: only after it is the order of the remembered entries known.
     fn do_round<R: Threads + Sync, P: Program, G: Gate>(
         &mut self,
         rt: &R,
@@ -227,7 +227,7 @@ impl Collector {
         programs: &mut [P],
         gate: &G,
     ) -> Result<(), NoMemory>
-        requires limits { IsInLimits script.now.value }
+        requires limits { FitsRun script.now.value }
         requires config { config.now ≡ script.now.value.config }
         requires stopped { HasStopped script.now.value self.old × (self.old.answered ≡ None) }
         requires programs { MayBeAsked P.words P.most P.valid script.now.value self.old.positions.items programs.old }
@@ -257,7 +257,7 @@ impl Collector {
         script: &Witness<Script>,
         programs: &[P],
     ) -> Result<(), NoMemory>
-        requires limits { IsInLimits script.now.value }
+        requires limits { FitsRun script.now.value }
         requires config { config.now ≡ script.now.value.config }
         requires stopped { HasStopped script.now.value self.old }
         requires programs { MayBeAsked P.words P.most P.valid script.now.value self.old.positions.items programs.now }
@@ -275,7 +275,7 @@ impl Collector {
         script: &Witness<Script>,
         programs: &[P],
     ) -> Result<(), NoMemory>
-        requires limits { IsInLimits script.now.value }
+        requires limits { FitsRun script.now.value }
         requires config { config.now ≡ script.now.value.config }
         requires stopped { HasStopped script.now.value self.old }
         requires programs { MayBeAsked P.words P.most P.valid script.now.value self.old.positions.items programs.now }
@@ -301,7 +301,7 @@ impl Collector {
         opening: &Witness<Opened>,
         lists: Lists,
     )
-        requires limits { IsInLimits script.now.value }
+        requires limits { FitsRun script.now.value }
         requires config { config.now ≡ script.now.value.config }
         requires opens { OpensAt script.now.value self.old opening.now.value }
         requires programs { MayBeAsked P.words P.most P.valid script.now.value self.old.positions.items programs.old }

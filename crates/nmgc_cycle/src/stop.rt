@@ -29,7 +29,7 @@ ghost use Rattle.std.specs.Prelude.{ℕ, ◌≡◌, ◌↔◌, ◌^◌, ◌<◌,
 ghost use Rattle.nmgc_stop_spec.specs.Stopped.{Stopped};
 ghost use Rattle.nmgc_minor.specs.Promotion.{IsFor};
 ghost use Rattle.nmgc_cycle.specs.{Cycles.MarksOn, Shown.turns_of, Shown.upper_turns_of, Shown.mutator_turns_of, Keeps.CanStop, Keeps.HasAnswered, Keeps.StopsAfter, Stopping.StandsStopped, Stopping.CanList, Stopping.HasListed, Stopping.HasPromoted, Stopping.SomeIsLeft, Stopping.IsDone, Stopping.IsHeapFullAt, Stopping.ended_by, Keeps.NothingReachableIsFreed, Programs.FollowEach};
-ghost use Rattle.nmgc_script.specs.Spelling.{IsInLimits};
+ghost use Rattle.nmgc_run_laws.specs.Limits.{FitsRun};
 ghost use Rattle.nmgc_cycle.specs.declared.stop.StopEnd.TheVariants as answer;
 ghost use Rattle.nmgc_sweep.specs.NameTable.{HaveEntries};
 
@@ -68,7 +68,8 @@ impl Collector {
     /// census. A full cycle is done exactly if it is due; otherwise a cycle begins exactly if it is due. The stop's row has
     /// the numbers of the heap that the stop leaves, and follows the rows before; rows of rounds stay. The run after the stop
     /// is the run before the round, with this round and this stop, whatever the answer. Only weak pointers that die at a
-    /// closing change the world. No command is answered. Each reachable object has its block afterwards (clause `freed`).
+    /// closing change the world. No command is answered. Afterwards
+    /// each object that roots or living weak pointers reach has a block (clause `freed`).
     ///
     /// Answers `Done` exactly if no command is left and no cycle is in progress. Answers `HeapFull` exactly if commands are
     /// left and fewer segments are free than the reserve, even after a full cycle at this stop. If the same cycle marks
@@ -79,11 +80,10 @@ impl Collector {
     /// Requires that no stop was done yet, or that a round followed the last stop. Takes memory for weak pointers that join
     /// the list, and for the rows of the stop and of a cycle that ends. A cycle that begins takes memory for the marker's
     /// queue, the sweeper's lists and finaliser queues. Takes time for promoted objects, roots, weak pointers that leave or
-    /// join the list, recorded fields, remembered entries, and segments. A closing adds the objects left to scan, the list of
-    /// weak pointers with a logarithm, and the mark bytes of segments in use that don't wait to be swept. A full cycle adds
-    /// all reachable objects and every block. After `NoMemory` nothing is known of the collector.
+    /// join the list, recorded fields, remembered entries, and segments. A closing adds the objects left to scan, and the list of
+    /// weak pointers with a logarithm. A full cycle adds all reachable objects and every block. After `NoMemory` nothing is known of the collector.
     pub fn stop<R: Threads + Sync>(&mut self, rt: &R, script: &Script) -> Result<StopEnd, NoMemory>
-        requires limits { IsInLimits script.now }
+        requires limits { FitsRun script.now }
         requires can { CanStop script.now self.old }
         ensures answered { IfOk result (λ end. HasAnswered script.now self.new end) }
         ensures after { OnOk result (StopsAfter script.now self.old self.new) }
@@ -102,8 +102,8 @@ impl Collector {
     }
 
     /// Does a stop of a run of programs, as `stop` does for a script, and returns its answer. `script` is the script of the
-    /// run so far, for proofs alone: the rest of each of its programs begins with the program's next command. No program is
-    /// asked for more than that command. The caller has the programs as they were at their last reply.
+    /// run so far, for proofs alone: the rest of each of its programs begins with the program's next command. Programs are
+    /// only asked whether they have a next command, and none changes.
     pub fn stop_programs<R: Threads + Sync, P: Program>(
         &mut self,
         rt: &R,
@@ -111,7 +111,7 @@ impl Collector {
         script: &Witness<Script>,
         programs: &[P],
     ) -> Result<StopEnd, NoMemory>
-        requires limits { IsInLimits script.now.value }
+        requires limits { FitsRun script.now.value }
         requires config { config.now ≡ script.now.value.config }
         requires valid { (k : ℕ) (p : P) → slice_get programs.now k ≡ Some p → P.valid p }
         requires follow { FollowEach P.next script.now.value self.old.positions.items programs.now }
@@ -135,7 +135,7 @@ impl Collector {
         script: &Witness<Script>,
         left: bool,
     ) -> Result<StopEnd, NoMemory>
-        requires limits { IsInLimits script.now.value }
+        requires limits { FitsRun script.now.value }
         requires trigger { trigger ≡ script.now.value.config.trigger }
         requires left { IsTrue left ↔ SomeIsLeft script.now.value.threads self.old.positions.items }
         requires can { CanStop script.now.value self.old }

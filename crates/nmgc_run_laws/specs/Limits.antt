@@ -1,11 +1,24 @@
--- The limits of a script in its runs: a layout, and numbers and objects within the limits at every state.
-use Rattle.std.specs.Prelude.{ℕ, ◌-◌, ◌<◌, ◌^◌, List, length, All}
+-- The limits of a script in its runs: few enough commands, a layout, and numbers and objects within the limits at every state.
+use Rattle.std.specs.Prelude.{ℕ, ◌-◌, ◌<◌, ◌≤◌, ◌^◌, List, length, sum_by, All}
 use Rattle.nmgc_world_spec.specs.{declared.command.Command.Command, declared.command.Reply.Reply, World.Fits, Reach.Row}
 use Rattle.nmgc_world_laws.specs.Limits.{IsWithin}
 use Rattle.nmgc_object.specs.Layouts.{IsLayout}
 use Rattle.nmgc_script.specs.{Spelling.FitsScript, declared.script.Script.Script}
 use Rattle.nmgc_run_spec.specs.{Run.IsRound, Run.Run, Run.IsRun, Run.last_state, Run.Plan, Run.State, Run.plan_of, Run.layout_of, AfterRound.program_of}
 use Rattle.nmgc_run_laws.specs.Sound.{IsRunnable, IsSoundState}
+
+-- the most commands of all programs of a run. A round answers at least one while some are left, so stops have numbers of 32 bits
+abbrev pub most_commands : ℕ
+most_commands = 2 ^ 31
+
+-- the programs together have few enough commands for a run
+abbrev pub HasFewInAll : Script → Type 0
+HasFewInAll script = sum_by length script.threads ≤ most_commands
+
+-- the scripts that have runs: they are within the limits, and have few enough commands. All scripts that can be read are such
+pub record FitsRun (script : Script) : Type 0 where
+  pub fits : FitsScript script
+  pub few : HasFewInAll script
 
 -- each command of the programs is within the limits of a script
 abbrev pub AreFitting : Plan → List (List Command) → Type 0

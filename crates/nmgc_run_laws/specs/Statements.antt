@@ -5,12 +5,12 @@ use Rattle.nmgc_segment.specs.declared.state.State.TheVariants as stands
 use Rattle.nmgc_segment.specs.Segment.{Segment}
 use Rattle.nmgc_alloc.specs.AllocState.{is}
 use Rattle.nmgc_journal.specs.{declared.report.RoundRows.RoundRows, declared.report.Report.Report, declared.report.StopRow.StopRow, declared.report.CycleRow.CycleRow, declared.report.End.End}
-use Rattle.nmgc_script.specs.{Spelling.FitsScript, Spelling.upgraded, declared.script.Script.Script, Parts.HasFewCommands}
+use Rattle.nmgc_script.specs.{Spelling.FitsScript, Spelling.upgraded, declared.script.Script.Script}
 use Rattle.nmgc_run_spec.specs.{AfterRound.program_of, Run.Plan, Run.answer_of, Run.Run, Run.Turn, Run.IsRun, Run.IsTurn, Run.AreRowsOf, Run.last_state, Lawful.IsLawful, Lawful.IsRunOf, AfterRound.with_turn, Run.IsFoundObject, Run.IsSteadyObject, Run.owed}
 use Rattle.nmgc_world_spec.specs.{declared.value.Name.Name, Reach.Row, Reach.replayed, World.serial_of}
 use Rattle.nmgc_world_laws.specs.Reachable.{IsSound}
 use Rattle.nmgc_stop_spec.specs.{Cycle.Cycle, Kept.interval_of}
-use Rattle.nmgc_run_laws.specs.Sound.{IsRunnable}
+use Rattle.nmgc_run_laws.specs.{Limits.FitsRun, Sound.IsRunnable}
 
 -- the law that a layout has the classes of dense blocks, and one for each doubling from `DENSE_WORDS` to a segment's words
 abbrev pub ClassesAreCounted : Type 0
@@ -79,9 +79,9 @@ AddsOneTurn = (run : Run) (turn : Turn) (rounds : List RoundRows) (stops : List 
 abbrev pub LastIsOfTurn : Type 0
 LastIsOfTurn = (run : Run) (turn : Turn) → last_state (with_turn run turn) ≡ turn.stop.state
 
--- the law that a lawful report is of the run for which it is lawful, for a script within the limits with few enough commands
+-- the law that a lawful report is of the run for which it is lawful, for a script that fits a run
 abbrev pub LawfulAreOfRuns : Type 0
-LawfulAreOfRuns = (script : Script) (report : Report) → FitsScript script → HasFewCommands script → (lawful : IsLawful script report) →
+LawfulAreOfRuns = (script : Script) (report : Report) → FitsRun script → (lawful : IsLawful script report) →
     (run : IsRunOf script report) × (run.lawful ≡ lawful)
 
 -- the law that a cycle's found objects are exactly its steady objects, if the commands of its last round owed nothing

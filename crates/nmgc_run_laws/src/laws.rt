@@ -88,14 +88,14 @@ pub fn runs_stay_within_limits()
     ensures rounds { RoundsAreWithin }
 {}
 
-/// Proves that at the end of a run of a script within the limits, the heap at the end (`HoldsAtEnd`) is the heap at the last
-/// stop (`HasHeapOfStop`).
+/// Proves that at the end of a run of a script that fits a run (`FitsRun`), the heap at the end (`HoldsAtEnd`) is the heap at
+/// the last stop (`HasHeapOfStop`).
 pub fn ends_are_stops()
     ensures { EndsAreStops }
 {}
 
 /// Proves that each lawful report of a script is a report of the script's run (`IsRunOf`), if the script is within the limits
-/// and has few enough commands (`HasFewCommands`). The report ends as heap full exactly if the run's last stop leaves the
+/// and has few enough commands in all (`FitsRun`). The report ends as heap full exactly if the run's last stop leaves the
 /// heap full (`LeavesHeapFull`). In that case the last cycle kept more objects than there are segments above the reserve, and
 /// the last stop is crowded (`IsCrowded`).
 pub fn lawful_reports_are_of_runs()

@@ -8,6 +8,8 @@ mod of_cycle;
 #[cfg(test)]
 mod of_gates;
 #[cfg(test)]
+mod of_programs;
+#[cfg(test)]
 mod of_retain;
 #[cfg(test)]
 mod worked;

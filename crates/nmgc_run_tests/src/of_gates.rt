@@ -198,7 +198,7 @@ fn each_unit_of_work_has_its_pass(rt: HostRuntime) -> Result<(), Fail> {
 }
 
 // Returns a collector after two rounds of a script, each after a stop, or `None` if one of these stops ended the run.
-#[tactic(auto, using(crate::proofs::Rounds::has_line))]
+#[tactic(auto, using(crate::proofs::Rounds::has_line, crate::proofs::Rounds::fits_run))]
 fn after_two_rounds<R: Threads + Sync, G: Gate>(
     alloc: Global,
     rt: &R,

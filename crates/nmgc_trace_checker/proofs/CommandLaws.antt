@@ -1,5 +1,5 @@
 -- A line spells a command exactly if the script with this line as its only command is read and has a command.
-use Rattle.std.proofs.{Common.◌≡◌, Common.◌<◌, Common.◌≤◌, Common.◌+◌, Common.◌*◌, Common.ℕ, Common.List, Common.[], Common.◌∷◌, Common.◌++◌, Common.map, Common.length, Common.refl, Common.sym, Common.ap, Common.subst, Common.◌∙◌, Common.arith, Common.true, Common.false, Common.codes, Common.inl, Common.inr, Common.Option, Common.Some, Common.None, Common.Result, Common.Ok, Common.Err, Common.IfOk, Common.MatchResult, Common.append_assoc, Common.lit≤, lemmas.Bool.ne_eqb, lemmas.Bool.cases_Bool, lemmas.List.append-nil, lemmas.List.map_push, lemmas.List.same_from_push, lemmas.List.length-append, lemmas.List.Elements.All-nil, lemmas.List.Elements.All-cons, lemmas.List.Elements.All-contains, lemmas.List.Elements.Contains-push}
+use Rattle.std.proofs.{Common.◌≡◌, Common.◌<◌, Common.◌≤◌, Common.◌+◌, Common.◌*◌, Common.ℕ, Common.List, Common.[], Common.◌∷◌, Common.◌++◌, Common.map, Common.length, Common.refl, Common.sym, Common.ap, Common.subst, Common.◌∙◌, Common.arith, Common.true, Common.false, Common.codes, Common.inl, Common.inr, Common.Option, Common.Some, Common.None, Common.Result, Common.Ok, Common.Err, Common.IfOk, Common.MatchResult, Common.append_assoc, Common.lit≤, lemmas.Bool.ne_eqb, lemmas.Bool.cases_Bool, lemmas.List.append-nil, lemmas.List.map_push, lemmas.List.length-append, lemmas.List.Elements.All-nil, lemmas.List.Elements.All-cons, lemmas.List.Elements.All-contains, lemmas.List.Elements.Contains-push}
 use Rattle.std.specs.{Prelude.All, Prelude.Contains, Fmt.digits}
 use Rattle.nmgc_lists.specs.{declared.memory.NoMemory.NoMemory, laws.Items.contains_cases, laws.Items.contains_head, laws.Items.contains_tail, laws.Items.nothing_in}
 use Rattle.nmgc_world_spec.specs.{declared.command.Command.Command, World.Fits, World.HasRegistersBelow}

@@ -1,5 +1,5 @@
 -- The texts that a checker keeps of lines that made names due.
-use Rattle.nmgc_trace_checker.proofs.Vocabulary.{Begun, Meaning, Happens, Bool, false, true, false≢true, sym, ◌∙◌, ◌⊎◌, Contains-append_left, Contains-push, length, take, take_more, get_or, ◌<◌, ◌+◌, ◌≢◌}
+use Rattle.nmgc_trace_checker.proofs.Vocabulary.{Begun, Meaning, Happens, Bool, false, true, false≢true, sym, ◌∙◌, Contains-append_left, Contains-push, length, take, take_more, get_or, ◌<◌, ◌+◌, ◌≢◌}
 use Rattle.nmgc_barrier_laws.specs.declared.debt.Debt.{Debt}
 use Rattle.nmgc_trace_checker.specs.Notes.{AreKept, HasKept, HasLine, IsOwedIn, KeepsLines}
 use Rattle.nmgc_trace_checker.proofs.Owing.{from_line}

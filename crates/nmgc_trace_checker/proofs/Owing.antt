@@ -1,7 +1,7 @@
 -- The debts of a trace's state: each was there before or is new at its line, and a reason about a due name is about one of them.
-use Rattle.nmgc_trace_checker.proofs.Vocabulary.{◌≡◌, ◌⊎◌, ◌∙◌, ℕ, refl, sym, ap, subst, inl, inr, List, [], ◌∷◌, Contains, nothing, Name, Command, Reply, World, Cycle, Hybrid, IsWatchedIn, Watch, CanAct, AreDone, Meaning, Begun, Happens}
+use Rattle.nmgc_trace_checker.proofs.Vocabulary.{◌≡◌, ◌⊎◌, ℕ, subst, inl, inr, List, [], ◌∷◌, Contains, nothing, Name, Command, Reply, World, Cycle, Hybrid, IsWatchedIn, Watch, CanAct, AreDone, Meaning, Begun, Happens}
 use Rattle.nmgc_barrier_laws.specs.declared.debt.Debt.{Debt}
-use Rattle.nmgc_barrier_checker.specs.{declared.event.Event.Event, declared.event.Why.Why, Cycles.IsNotDone, Cycles.IsWhyNot, Watching.Can, Watching.IsAgainst, Watching.IsAgainstWith, Watching.IsOwed, Watching.IsWhy, Watching.StopsAt, Watching.WhyKept, Watching.WhyNoAct}
+use Rattle.nmgc_barrier_checker.specs.{declared.event.Event.Event, Cycles.IsNotDone, Watching.Can, Watching.IsAgainst, Watching.IsAgainstWith, Watching.IsOwed, Watching.IsWhy, Watching.WhyNoAct}
 use Rattle.nmgc_barrier_checker.specs.declared.event.Event.TheVariants as event
 use Rattle.nmgc_barrier_checker.specs.declared.event.Why.TheVariants as why
 use Rattle.nmgc_barrier_checker.specs.declared.watch.Watch.TheVariants as watch

@@ -14,7 +14,7 @@ use Rattle.nmgc_trace_checker.specs.declared.verdict.Verdict.TheVariants as verd
 
 -- REASONS
 
--- the text of a line, in brackets after a space, if it is known
+-- the text of a line, in brackets after a space, or nothing if there is none
 abbrev pub bracketed : Option (List ℕ) → List ℕ
 bracketed None = []
 bracketed (Some text) = codes " (" ++ text ++ codes ")"
@@ -27,7 +27,8 @@ named_text before name after = codes "can't happen: " ++ before ++ name_text nam
 abbrev pub unscanned_text : ℕ → List ℕ
 unscanned_text mutator = codes "can't happen: mutator " ++ decimal mutator ++ codes " wasn't scanned"
 
--- the reason that a name is due and wasn't pushed: the name, the line since which it is due, and that line's text if it is known
+-- the reason that a name is due and wasn't pushed: the name, the number of the line since which it is due, and
+-- that line's text
 abbrev pub debt_text : Debt → Option (List ℕ) → List ℕ
 debt_text debt since = codes "can't happen: " ++ name_text debt.name ++ codes " is due since line " ++ decimal debt.line ++ bracketed since ++
     codes ", and nobody remembered it"

@@ -1,6 +1,6 @@
-//! The state of a trace of format 2 as its lines come. A line is judged as it comes, and its effect is kept. Its text is kept
-//! if a later refusal may report it: it made a name due that wasn't pushed and hadn't come due by its mutator before in this
-//! cycle. So there is at most one text for each name and mutator, and the line of each debt is kept. Outside of a cycle there
+//! The state of a trace of format 2 as its lines come. A line is judged as it comes, and its effect is kept. The text
+//! of a line is kept if a later refusal may report it. Such a line made a name due that wasn't pushed, and that hadn't come
+//! due by the line's mutator before in this cycle. So there is at most one text for each name and mutator, and the line of each debt is kept. Outside of a cycle there
 //! are no debts, and no text is kept.
 ghost use Rattle.std.specs.Prelude.{◌≡◌, ◌++◌, [], true, string_bytes, None, Contains, IfOk, OnOk};
 ghost use Rattle.std.specs.Option.{option_map};

@@ -57,7 +57,7 @@ impl Report {
 }
 
 /// Does the line with this meaning and returns `None`, or returns why it can't happen. If the line happened, adds the number
-/// of names that its commands made due to `dues`. After a refusal the state may be any.
+/// of names that its commands made due to `dues`. After a refusal the state and `dues` may be anything.
 pub(crate) fn do_line(
     begun: &mut Begun,
     alloc: Global,

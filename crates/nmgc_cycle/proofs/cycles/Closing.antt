@@ -1,5 +1,5 @@
 -- A cycle is closed at a stop, or goes on, as a run allows it.
-use Rattle.nmgc_cycle.proofs.Vocabulary.{false, ℕ, ◌≡◌, List, Option, Some, None, refl, sym, ap, subst, ◌∙◌, inl, inr, IsSome, Place, ClosesOrWaits, HoldsInCycle, IsPacedAtStop, CollectorSeen, State, Progress, idle, marking, sweeping, phase_of, Cycle, Script, Collector, Doing, Closes, HasClosed, seen, phase_in, work_in, words_in, IsInLimits, StandsWithin, StandsAt, IsPacedWithin, FinishingLeads, ClosingLeads}
+use Rattle.nmgc_cycle.proofs.Vocabulary.{false, ℕ, ◌≡◌, List, Option, Some, None, refl, sym, ap, subst, ◌∙◌, inl, inr, IsSome, Place, ClosesOrWaits, HoldsInCycle, IsPacedAtStop, CollectorSeen, State, Progress, idle, marking, sweeping, phase_of, Cycle, Script, Collector, Doing, Closes, HasClosed, seen, phase_in, work_in, words_in, FitsRun, StandsWithin, StandsAt, IsPacedWithin, FinishingLeads, ClosingLeads}
 use Rattle.nmgc_journal.specs.declared.report.Phase.TheVariants as phase
 use Rattle.nmgc_cycle.specs.declared.progress.Progress.TheVariants as doing
 
@@ -32,7 +32,7 @@ stands_on script c s goes h = record {
   named = h.named;
 }
 
-module _ (law : FinishingLeads) (script : Script) (old new : Collector) (s : State) (limits : IsInLimits script) (h : StandsWithin script old s)
+module _ (law : FinishingLeads) (script : Script) (old new : Collector) (s : State) (limits : FitsRun script) (h : StandsWithin script old s)
     (closed : HasClosed Closes s.number old new) where
   abbrev Leads : Type 0
   Leads = (t : State) × ClosesOrWaits script.config.quota s.progress s t × StandsAt script new t

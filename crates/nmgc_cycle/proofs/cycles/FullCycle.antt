@@ -1,5 +1,5 @@
 -- A full cycle is the run's, and a stop goes on as the run does.
-use Rattle.nmgc_cycle.proofs.Vocabulary.{ℕ, ◌≡◌, List, [], ◌++◌, length, Bool, false, refl, sym, ap, subst, ◌∙◌, inl, inr, arith, append-nil, append_assoc, IsSome, Segments, HasNone, IsSegments, FIRST_PLACE, counts_stand, CycleRow, ClosesNow, has_left, Plan, State, Progress, idle, marking, sweeping, cycle_started, free_count, plan_of, Finishes, DoesFullCycle, EndsOrWaits, IsFullDue, Proceeds, is_short, with_all_retired, Script, Name, Collector, Marking, Doing, Sweeping, Begins, Ends, CanBegin, HasClosed, HasStarted, HasFinished, StandsAtStop, FinishingNowLeads, SweepingRestLeads, FinishLeads, FilingLeads, FullLeads, ProceedingLeads, words_in, report_cycles, IsInLimits, StandsAt, StartingLeads, EndLeads, BeginReady, BeginningLeads, ◌≤◌}
+use Rattle.nmgc_cycle.proofs.Vocabulary.{ℕ, ◌≡◌, List, [], ◌++◌, length, Bool, false, refl, sym, ap, subst, ◌∙◌, inl, inr, arith, append-nil, append_assoc, IsSome, Segments, HasNone, IsSegments, FIRST_PLACE, counts_stand, CycleRow, ClosesNow, has_left, Plan, State, Progress, idle, marking, sweeping, cycle_started, free_count, plan_of, Finishes, DoesFullCycle, EndsOrWaits, IsFullDue, Proceeds, is_short, with_all_retired, Script, Name, Collector, Marking, Doing, Sweeping, Begins, Ends, CanBegin, HasClosed, HasStarted, HasFinished, StandsAtStop, FinishingNowLeads, SweepingRestLeads, FinishLeads, FilingLeads, FullLeads, ProceedingLeads, words_in, report_cycles, FitsRun, StandsAt, StartingLeads, EndLeads, BeginReady, BeginningLeads, ◌≤◌}
 use Rattle.nmgc_alloc.specs.Reserve as reserve
 use Rattle.nmgc_alloc.specs.declared.search.Category.TheVariants as sought
 use Rattle.nmgc_segment.specs.declared.state.State.TheVariants as stands
@@ -210,7 +210,7 @@ finished_begun stop old new f = ends_begun stop f.swept.cycle.progress f.swept n
 
 -- after the cycle in progress was closed, the collector represents a state at the same stop
 pub closed_at : FinishingNowLeads → (stop : ℕ) (old new : Collector) → StandsAtStop stop old → HasClosed full.ClosesNow stop old new →
-    (script : Script) × (t : State) × IsInLimits script × StandsAt script new t
+    (script : Script) × (t : State) × FitsRun script × StandsAt script new t
 closed_at closing stop old new (script, s, limits, number, h) closed =
     let led = closing script old new s limits h (subst (λ (n : ℕ). HasClosed full.ClosesNow n old new) (sym number) closed) in
     (script, led.0, limits, led.2)

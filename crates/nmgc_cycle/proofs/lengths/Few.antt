@@ -1,5 +1,5 @@
 -- The rounds that may still follow: the steps that leave few, and the 32 bits of a run's numbers.
-use Rattle.nmgc_cycle.proofs.{Vocabulary.ℕ, Vocabulary.◌≡◌, Vocabulary.◌+◌, Vocabulary.◌<◌, Vocabulary.◌≤◌, Vocabulary.◌^◌, Vocabulary.List, Vocabulary.[], Vocabulary.length, Vocabulary.ap, Vocabulary.◌∙◌, Vocabulary.arith, Vocabulary.inl, Vocabulary.inr, Vocabulary.RoundRows, Vocabulary.StopRow, Vocabulary.Script, Vocabulary.segments_few, Vocabulary.threads_few, Vocabulary.total_few, Vocabulary.Collector, Vocabulary.commands_left, Vocabulary.most_stops, Vocabulary.phase_left, Vocabulary.MayFollow, Vocabulary.AreFew, Vocabulary.NoneIsDue, Vocabulary.commands, Vocabulary.one_cycle, Vocabulary.no_cycle, Vocabulary.CanStop, Vocabulary.IsFresh, Vocabulary.IsInLimits, lengths.Measures.commands_most, lists.Phases.when_idle}
+use Rattle.nmgc_cycle.proofs.{Vocabulary.ℕ, Vocabulary.◌≡◌, Vocabulary.◌+◌, Vocabulary.◌<◌, Vocabulary.◌≤◌, Vocabulary.◌^◌, Vocabulary.List, Vocabulary.[], Vocabulary.length, Vocabulary.ap, Vocabulary.◌∙◌, Vocabulary.arith, Vocabulary.inl, Vocabulary.inr, Vocabulary.RoundRows, Vocabulary.StopRow, Vocabulary.Script, Vocabulary.segments_few, Vocabulary.threads_few, Vocabulary.total_few, Vocabulary.Collector, Vocabulary.commands_left, Vocabulary.most_stops, Vocabulary.phase_left, Vocabulary.MayFollow, Vocabulary.AreFew, Vocabulary.NoneIsDue, Vocabulary.commands, Vocabulary.one_cycle, Vocabulary.no_cycle, Vocabulary.CanStop, Vocabulary.IsFresh, Vocabulary.FitsRun, lengths.Measures.commands_most, lists.Phases.when_idle}
 
 -- the stops counted are no more than a run has
 pub within : (N : Type 0) (script : Script) (c : Collector) (stops : ℕ) → MayFollow N script c stops → stops ≤ most_stops script
@@ -8,7 +8,7 @@ within N script c stops (one_cycle none h) = omega (arith, h)
 within N script c stops (no_cycle none nothing due h) = omega (arith, h)
 
 -- and their numbers have 32 bits
-pub stops_fit : (script : Script) → IsInLimits script → most_stops script < 2 ^ 32
+pub stops_fit : (script : Script) → FitsRun script → most_stops script < 2 ^ 32
 stops_fit script limits =
     let most = commands_most script limits [] in
     let threads = threads_few script limits.fits in
@@ -62,13 +62,13 @@ pub record Fit (script : Script) (c : Collector) : Type 0 where
   pub number : length c.rows.stops + 1 < 2 ^ 32
   pub begun : c.cycle.begun + 1 < 2 ^ 32
 
-fits : (N : Type 0) (script : Script) (c : Collector) → IsInLimits script → AreFew N script c (length c.rows.stops + 1) →
+fits : (N : Type 0) (script : Script) (c : Collector) → FitsRun script → AreFew N script c (length c.rows.stops + 1) →
     c.cycle.begun ≤ length c.rows.stops → Fit script c
 fits N script c limits few begun =
     let most = within N script c (length c.rows.stops + 1) few.follow in
     let small = stops_fit script limits in
     record { within = most; number = omega (arith, most, small); begun = omega (arith, most, small, begun) }
 
-pub stop_fits : (script : Script) (c : Collector) → IsInLimits script → CanStop script c → Fit script c
+pub stop_fits : (script : Script) (c : Collector) → FitsRun script → CanStop script c → Fit script c
 stop_fits script c limits (inl fresh) = fits (Unit {0}) script c limits (fresh_few (Unit {0}) script c fresh) (fresh_begun script c fresh)
 stop_fits script c limits (inr worked) = fits _ script c limits worked.few.few worked.few.begun

@@ -1,5 +1,5 @@
 -- The number of commands left: while some are left, a round answers one.
-use Rattle.nmgc_cycle.proofs.Vocabulary.{ℕ, zero, suc, ◌≡◌, ◌+◌, ◌-◌, ◌*◌, ◌<◌, ◌≤◌, List, [], ◌∷◌, ◌++◌, length, drop, refl, sym, ap, subst, ◌∙◌, arith, Bool, true, slice_index_or, inl, inr, All, ◌&&◌, nat_lt, nat_le, if◌then◌else◌, le-leb, lt-ltb, cases_lt, length-drop, All-drop, All-head, All-tail, Fits, words_made, Row, Command, Reply, most_script_bytes, RoundRows, Config, Script, IsRound, slice, slice_of, is_next, ends_slice, program_of, Plan, State, plan_of, answered_count, slice_count, scripts_have_good_plans, left_from, commands_left, IsInLimits}
+use Rattle.nmgc_cycle.proofs.Vocabulary.{ℕ, zero, suc, ◌≡◌, ◌+◌, ◌-◌, ◌<◌, ◌≤◌, List, [], ◌∷◌, ◌++◌, length, drop, refl, sym, ap, subst, ◌∙◌, arith, Bool, true, slice_index_or, inl, inr, All, ◌&&◌, nat_lt, nat_le, if◌then◌else◌, le-leb, lt-ltb, cases_lt, length-drop, sum_by, sum_by-cons, All-drop, All-head, Fits, words_made, Row, Command, Reply, most_commands, RoundRows, Config, Script, IsRound, slice, slice_of, is_next, ends_slice, program_of, Plan, State, plan_of, answered_count, slice_count, scripts_have_good_plans, left_from, commands_left, FitsRun}
 
 -- if more of each program were answered, no more are left
 no_more : (old new : ℕ → ℕ) (m : ℕ) (programs : List (List Command)) → ((k : ℕ) → old k ≤ new k) → left_from new m programs ≤ left_from old m programs
@@ -46,13 +46,12 @@ none_left answered m (program ∷ programs) none zero k at =
 none_left answered m (program ∷ programs) none (suc j) k at = none_left answered (m + 1) programs (omega (arith, none)) j k (omega arith)
 
 -- no more commands are left than there are
-pub left_most : (answered : ℕ → ℕ) (m : ℕ) (programs : List (List Command)) → All (λ program. length program ≤ most_script_bytes) programs →
-    left_from answered m programs ≤ length programs * most_script_bytes
-left_most answered m [] each = omega arith
-left_most answered m (program ∷ programs) each =
-    let first = All-head (λ program. length program ≤ most_script_bytes) program programs each in
-    let rest = left_most answered (m + 1) programs (All-tail (λ program. length program ≤ most_script_bytes) program programs each) in
-    omega arith
+pub left_most : (answered : ℕ → ℕ) (m : ℕ) (programs : List (List Command)) → left_from answered m programs ≤ sum_by length programs
+left_most answered m [] = omega arith
+left_most answered m (program ∷ programs) =
+    let rest = left_most answered (m + 1) programs in
+    let all = sum_by-cons length program programs in
+    omega (arith, rest, all)
 
 -- a further round was answered
 pub answered_more : (rounds : List RoundRows) (rows : RoundRows) (m : ℕ) →
@@ -86,7 +85,7 @@ nothing_left plan s answered left none m =
     omega (arith, all, rest, same)
 
 -- if some are left, a round leaves fewer
-pub round_falls : (script : Script) (s t : State) (replies : List (List Reply)) (rows : List Row) (answered : ℕ → ℕ) → IsInLimits script →
+pub round_falls : (script : Script) (s t : State) (replies : List (List Reply)) (rows : List Row) (answered : ℕ → ℕ) → FitsRun script →
     IsRound script.config s replies rows t → AreLeft (plan_of script) s answered → 1 ≤ left_from answered 0 script.threads →
     left_from (λ m. answered m + length (slice_index_or replies m [])) 0 script.threads < left_from answered 0 script.threads
 round_falls script s t replies rows answered limits round left some =
@@ -129,7 +128,9 @@ unfolding commands_left
 left_is threads rounds = refl
 
 -- the most commands of a run
-pub commands_most : (script : Script) → IsInLimits script → (rounds : List RoundRows) →
-    commands_left script.threads rounds ≤ length script.threads * most_script_bytes
+pub commands_most : (script : Script) → FitsRun script → (rounds : List RoundRows) → commands_left script.threads rounds ≤ most_commands
 unfolding commands_left
-commands_most script limits rounds = left_most (answered_count rounds) 0 script.threads limits.few
+commands_most script limits rounds =
+    let left = left_most (answered_count rounds) 0 script.threads in
+    let few = limits.few in
+    omega (arith, left, few)

@@ -1,5 +1,5 @@
 -- A round leaves fewer rounds to follow.
-use Rattle.nmgc_cycle.proofs.Vocabulary.{ℕ, ◌≡◌, ◌+◌, ◌<◌, ◌≤◌, ◌⊎◌, List, [], ◌∷◌, ◌++◌, length, refl, sym, ap, subst, ◌∙◌, arith, Bool, true, false, None, inl, inr, ◌&&◌, not, nat_lt, if◌then◌else◌, cases_lt, Segments, Row, Reply, End, HeapFull, RoundRows, StopRow, Round, RoundSeat, Script, IsAfterRound, Run, last_state, has_left, program_of, Plan, State, Progress, idle, marking, sweeping, phase_of, is_idle, plan_of, free_count, reserve_of, answered_count, answer_of, left_is_determined, Name, Collector, Marking, Doing, Sweeping, commands_left, cycle_most, heap_of, most_stops, phase_left, MayFollow, AreFewBeforeStop, HasMore, NoneIsDue, commands, one_cycle, no_cycle, HasHelped, HasScanned, HasSweptSome, IsAfterStop, seen, phase_in, report_cycles, IsInLimits, Some}
+use Rattle.nmgc_cycle.proofs.Vocabulary.{ℕ, ◌≡◌, ◌+◌, ◌<◌, ◌≤◌, ◌⊎◌, List, [], ◌∷◌, ◌++◌, length, refl, sym, ap, subst, ◌∙◌, arith, Bool, true, false, None, inl, inr, ◌&&◌, not, nat_lt, if◌then◌else◌, cases_lt, Segments, Row, Reply, End, HeapFull, RoundRows, StopRow, Round, RoundSeat, Script, IsAfterRound, Run, last_state, has_left, program_of, Plan, State, Progress, idle, marking, sweeping, phase_of, is_idle, plan_of, free_count, reserve_of, answered_count, answer_of, left_is_determined, Name, Collector, Marking, Doing, Sweeping, commands_left, cycle_most, heap_of, most_stops, phase_left, MayFollow, AreFewBeforeStop, HasMore, NoneIsDue, commands, one_cycle, no_cycle, HasHelped, HasScanned, HasSweptSome, IsAfterStop, seen, phase_in, report_cycles, FitsRun, Some}
 use Rattle.nmgc_journal.specs.declared.report.End.TheVariants.{Done}
 use Rattle.nmgc_journal.specs.declared.report.Phase.TheVariants as phase
 use Rattle.nmgc_cycle.specs.declared.progress.Progress.TheVariants as doing
@@ -65,7 +65,7 @@ not_idle p (marking k) e not is = let bad : phase.Idle ≡ phase.Marking = ap ph
 not_idle p (sweeping k closed) e not is = let bad : phase.Idle ≡ phase.Sweeping = ap phase_in (sym is) ∙ e in cc
 
 module _ (script : Script) (old new : Collector) (run : Run) (replies : List (List Reply)) (history : List Row) (worked : State)
-    (limits : IsInLimits script) (still : IsAfterStop script old run) (after : IsAfterRound (plan_of script) run replies history worked (seen new))
+    (limits : FitsRun script) (still : IsAfterStop script old run) (after : IsAfterRound (plan_of script) run replies history worked (seen new))
     (round : Round) (from seat : RoundSeat) (help : HasHelped round script.config.quota from seat old.heap.segments new.heap.segments old.heap.names
     old.cycle.progress new.cycle.progress) where
   abbrev s : State

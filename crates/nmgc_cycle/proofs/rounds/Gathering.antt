@@ -1,5 +1,5 @@
 -- The results of all mutators' slices, by their numbers.
-use Rattle.nmgc_cycle.proofs.Vocabulary.{ℕ, ◌≡◌, List, length, map, slice_index_or, sym, ap, subst, ◌∙◌, arith, Some, slice_get, length-map, slice_get_within, get_or_from_slice_get, Command, map_item, Layout, Round, Opening, RoundSeat, alone, Mutator, HasDone, IsResting, SlicesAreDone, Done, Script, Run, Collector, Worker, IsAfterStop, IsInLimits, left_at, HaveAllWorked, HasWorkedOn, worker_of, workers_of, mutator_of, seat_of, item}
+use Rattle.nmgc_cycle.proofs.Vocabulary.{ℕ, ◌≡◌, List, length, map, slice_index_or, sym, ap, subst, ◌∙◌, arith, Some, slice_get, length-map, slice_get_within, get_or_from_slice_get, Command, map_item, Layout, Round, Opening, RoundSeat, alone, Mutator, HasDone, IsResting, SlicesAreDone, Done, Script, Run, Collector, Worker, IsAfterStop, FitsRun, left_at, HaveAllWorked, HasWorkedOn, worker_of, workers_of, mutator_of, seat_of, item}
 use Rattle.nmgc_cycle.proofs.{lists.Items.chosen, rounds.Opened.IsOpened, rounds.Readiness.HasSeats, rounds.Readiness.seats_counted, rounds.Readiness.seat_alone, rounds.Readiness.workers_at, rounds.Readiness.workers_count, rounds.Resting.resting, rounds.Resting.mutators_counted, rounds.Slicing.IsSlice, rounds.Slicing.slice_done}
 
 -- the work of worker k, from its mutator's earlier state
@@ -14,7 +14,7 @@ pub record AllDid (script : Script) (c : Collector) (round : Round) (o : Opening
   pub count : length done ≡ length new
   pub each : (k : ℕ) (x : Worker) (d : List Done) → slice_get new k ≡ Some x → slice_get done k ≡ Some d → OneDid script c round o k x d
 
-module _ (script : Script) (c : Collector) (run : Run) (limits : IsInLimits script) (still : IsAfterStop script c run) (o : Opening)
+module _ (script : Script) (c : Collector) (run : Run) (limits : FitsRun script) (still : IsAfterStop script c run) (o : Opening)
     (op : IsOpened script c run still o) (round : Round) (seats : List RoundSeat) (has : HasSeats o round seats) (new : List Worker)
     (worked : HaveAllWorked round script c.positions.items (workers_of c.mutators.items seats) new) where
   old_count : length (workers_of c.mutators.items seats) ≡ length c.mutators.items

@@ -1,9 +1,9 @@
 -- As a round begins, the collector may do its part.
-use Rattle.nmgc_cycle.proofs.Vocabulary.{◌≡◌, refl, sym, ap, subst, ◌∙◌, Round, RoundSeat, IsAt, seat_seen, collecting, Opening, View, whole, IsTied, marks_seen, Script, IsMarking, HasRoomToMark, Run, last_state, Cycle, Progress, idle, marking, sweeping, phase_of, plan_of, layout_of, opening_beside, RoundBeginsTied, Sweeper, AreLeft, Collector, CanHelp, IsAfterStop, Sweeps, seen, marker_in, sweeper_in, IsInLimits, OpensIn}
+use Rattle.nmgc_cycle.proofs.Vocabulary.{◌≡◌, refl, sym, ap, subst, ◌∙◌, Round, RoundSeat, IsAt, seat_seen, collecting, Opening, View, whole, IsTied, marks_seen, Script, IsMarking, HasRoomToMark, Run, last_state, Cycle, Progress, idle, marking, sweeping, phase_of, plan_of, layout_of, opening_beside, RoundBeginsTied, Sweeper, AreLeft, Collector, CanHelp, IsAfterStop, Sweeps, seen, marker_in, sweeper_in, FitsRun, OpensIn}
 use Rattle.nmgc_cycle.specs.declared.progress.Progress.TheVariants as doing
 use Rattle.nmgc_cycle.proofs.{Vocabulary.HasOpeningLaws, rounds.Opened.in_cycle, lists.Phases.when_idle, lists.Phases.when_marking, lists.Phases.when_sweeping}
 
-module _ (laws : HasOpeningLaws) (begins : RoundBeginsTied) (script : Script) (c : Collector) (run : Run) (limits : IsInLimits script)
+module _ (laws : HasOpeningLaws) (begins : RoundBeginsTied) (script : Script) (c : Collector) (run : Run) (limits : FitsRun script)
     (still : IsAfterStop script c run) (round : Round) (seat : RoundSeat) (at : IsAt round seat) where
   -- the marker is tied to the opening's marks
   tied : (k : Cycle) → (last_state run).progress ≡ marking k → (h : IsMarking k (last_state run) (seen c) still.at_stop.heap.places) →

@@ -1,5 +1,5 @@
 -- A script's programs as lists, in a round: whatever they give, the script has it.
-use Rattle.nmgc_cycle.proofs.Vocabulary.{ℕ, zero, suc, ◌≡◌, ◌+◌, ◌-◌, ◌<◌, ◌≤◌, ◌++◌, ◌∙◌, List, [], ◌∷◌, map, take, drop, length, slice_get, slice_index, Option, Some, refl, sym, ap, subst, inl, take-append-drop, drop-drop, slice_get_within, arith, All, Fits, Command, Reply, Done, Script, program_of, longer, longer_script, left_at, Continues, Follows, GaveEach, CanContinue, MayBeAsked, AreListed, IsInLimits, item}
+use Rattle.nmgc_cycle.proofs.Vocabulary.{ℕ, zero, suc, ◌≡◌, ◌+◌, ◌-◌, ◌<◌, ◌≤◌, ◌++◌, ◌∙◌, List, [], ◌∷◌, map, take, drop, length, slice_get, slice_index, Option, Some, refl, sym, ap, subst, inl, take-append-drop, drop-drop, slice_get_within, arith, All, Fits, Command, Reply, Done, Script, program_of, longer, longer_script, left_at, Continues, Follows, GaveEach, CanContinue, MayBeAsked, AreListed, FitsRun, item}
 use Rattle.nmgc_cycle.proofs.lists.Plans.{good_plan, program_few}
 use Rattle.nmgc_mutator.specs.laws.Lists.{follows_at, listed}
 use Rattle.nmgc_mutator.specs.declared.program.Listed.{Listed}
@@ -42,12 +42,12 @@ module _ {P : Type 0} (next : P → Option Command) (steps : P → Reply → P �
             (subst (λ (o : Option Command). Follows o (drop (position q) (commands q))) (sym (reads q)) (follows_at (commands q) (position q))),
       )
 
-  pub listed_can : IsInLimits script → CanContinue next steps words most valid script positions ps
+  pub listed_can : FitsRun script → CanContinue next steps words most valid script positions ps
   listed_can limits qs done gave = (
     [],
     λ k lt. inl refl,
     subst (λ (s : Script). Continues next s positions qs done) (sym (same_script script)) (listed_continues qs done gave),
-    subst IsInLimits (sym (same_script script)) limits,
+    subst FitsRun (sym (same_script script)) limits,
   )
 
 -- a list of commands as a program: its next command, its steps, and its bounds
@@ -67,7 +67,7 @@ abbrev pub listed_valid : Listed → Type 0
 listed_valid p = All (Fits p.words) p.commands.now
 
 -- the programs of a script, as lists
-module _ (script : Script) (positions : List ℕ) (ps : List Listed) (limits : IsInLimits script) (are : AreListed script positions ps) where
+module _ (script : Script) (positions : List ℕ) (ps : List Listed) (limits : FitsRun script) (are : AreListed script positions ps) where
   pub lists_may : ((k : ℕ) → k < length script.threads → slice_index positions k ≤ length (program_of script.threads k)) →
       MayBeAsked listed_words listed_most listed_valid script positions ps
   lists_may inside = record {

@@ -1,5 +1,5 @@
 -- A stopped collector, and the opening of its next round, belong to the run of a longer script too.
-use Rattle.nmgc_cycle.proofs.Vocabulary.{ℕ, zero, suc, ◌≡◌, ◌⊎◌, ◌+◌, ◌-◌, ◌*◌, ◌<◌, ◌≤◌, ◌∙◌, List, [], ◌∷◌, ◌++◌, length, drop, slice_index, refl, sym, ap, subst, arith, inl, inr, append-nil, length-append, length-drop, drop-append-le, Command, Layout, Opening, Place, Script, Run, last_state, State, Progress, idle, marking, sweeping, plan_of, layout_of, program_of, IsAtStop, AreNamed, longer, MayGoOn, longer_plan, longer_state, longer_run, count_longer, layout_longer, runs_are_of_longer, stops_are_of_longer, answered_count, left_from, commands_left, cycle_most, heap_of, MayFollow, commands, one_cycle, no_cycle, AreFewAtStop, Collector, IsWellFormed, IsAfterStop, Sweeps, seen, IsInLimits, left_at, OpensIn, OpensAt, MayBeLonger, longer_script}
+use Rattle.nmgc_cycle.proofs.Vocabulary.{ℕ, zero, suc, ◌≡◌, ◌⊎◌, ◌+◌, ◌-◌, ◌*◌, ◌<◌, ◌≤◌, ◌∙◌, List, [], ◌∷◌, ◌++◌, length, drop, slice_index, refl, sym, ap, subst, arith, inl, inr, append-nil, length-append, length-drop, drop-append-le, Command, Layout, Opening, Place, Script, Run, last_state, State, Progress, idle, marking, sweeping, plan_of, layout_of, program_of, IsAtStop, AreNamed, longer, MayGoOn, longer_plan, longer_state, longer_run, count_longer, layout_longer, runs_are_of_longer, stops_are_of_longer, answered_count, left_from, commands_left, cycle_most, heap_of, MayFollow, commands, one_cycle, no_cycle, AreFewAtStop, Collector, IsWellFormed, IsAfterStop, Sweeps, seen, FitsRun, left_at, OpensIn, OpensAt, MayBeLonger, longer_script}
 use Rattle.nmgc_cycle.proofs.{lists.Plans.sound_state, rounds.Positions.left_is, rounds.Positions.position_within}
 
 -- Programs
@@ -63,7 +63,7 @@ few_on : (stops left all cycle after whole then more : ℕ) → stops + left + 2
     then ≡ cycle → stops + after + 2 * then ≤ whole + 2 * then + 1
 few_on stops left all cycle after whole then more h a b c = omega (arith, h, a, b, c)
 
-module _ (script : Script) (more : List (List Command)) (c : Collector) (run : Run) (limits : IsInLimits script) (still : IsAfterStop script c run)
+module _ (script : Script) (more : List (List Command)) (c : Collector) (run : Run) (limits : FitsRun script) (still : IsAfterStop script c run)
     (may : MayBeLonger script c.positions.items more) where
   abbrev then : Script
   then = longer_script more script
@@ -194,7 +194,7 @@ module _ (script : Script) (more : List (List Command)) (c : Collector) (run : R
   in_longer (sweeping k closed) s places o h = h
 
 -- the opening of the next round is an opening for the longer script
-pub opens_longer : (script : Script) (more : List (List Command)) (c : Collector) (o : Opening) → IsInLimits script →
+pub opens_longer : (script : Script) (more : List (List Command)) (c : Collector) (o : Opening) → FitsRun script →
     MayBeLonger script c.positions.items more → OpensAt script c o → OpensAt (longer_script more script) c o
 unfolding still_longer
 opens_longer script more c o limits may (run, still, opens) =

@@ -1,5 +1,5 @@
 -- The opening of the round after a stop, whatever the collector does there.
-use Rattle.nmgc_cycle.proofs.Vocabulary.{ℕ, ◌≡◌, List, [], ◌∷◌, map, refl, sym, ap, subst, ◌∙◌, false, Some, World, nothing_in, AreEarlier, Place, earlier, CanOpen, Opening, Script, HoldsInCycle, IsMarking, snapshots, Run, last_state, IsInCycle, State, Progress, idle, marking, sweeping, phase_of, plan_of, Cycle, AreShown, Collector, IsAfterStop, HasStopped, seen, words_in, is_marking_in, IsInLimits, OpensIn, OpensAt, HasOpeningLaws}
+use Rattle.nmgc_cycle.proofs.Vocabulary.{ℕ, ◌≡◌, List, [], ◌∷◌, map, refl, sym, ap, subst, ◌∙◌, false, Some, World, nothing_in, AreEarlier, Place, earlier, CanOpen, Opening, Script, HoldsInCycle, IsMarking, snapshots, Run, last_state, IsInCycle, State, Progress, idle, marking, sweeping, phase_of, plan_of, Cycle, AreShown, Collector, IsAfterStop, HasStopped, seen, words_in, is_marking_in, FitsRun, OpensIn, OpensAt, HasOpeningLaws}
 use Rattle.nmgc_collector_laws.specs.Rest as turn
 use Rattle.nmgc_collector_laws.specs.RestMarking as beside
 use Rattle.nmgc_cycle.proofs.{lists.Phases.is_marking_phase, lists.Phases.marks_by_phase, lists.Plans.sound_state, rounds.Resting.still_rests}
@@ -27,7 +27,7 @@ opening_there script c (run, still) =
     let h = some_opening _ (last_state run).progress (last_state run) c still.at_stop.heap.places still.at_stop.cycle in
     (h.0, (run, still, h.1))
 
-module _ (laws : HasOpeningLaws) (script : Script) (c : Collector) (run : Run) (limits : IsInLimits script) (still : IsAfterStop script c run) where
+module _ (laws : HasOpeningLaws) (script : Script) (c : Collector) (run : Run) (limits : FitsRun script) (still : IsAfterStop script c run) where
   -- whether it is marking
   marks_with : (p : Progress) → (last_state run).progress ≡ p → is_marking_phase (phase_of p) ≡ is_marking_in c.cycle.progress
   marks_with p e = sym (marks_by_phase c.cycle.progress ∙ ap is_marking_phase (still.at_stop.matches.phase ∙ ap phase_of e))
@@ -86,5 +86,5 @@ module _ (laws : HasOpeningLaws) (script : Script) (c : Collector) (run : Run) (
   opened_in (sweeping k closed) o e h = subst (IsOpened script c run still) (sym h) (quiet (sweeping k closed) e refl refl)
 
 -- the opening of a stop is such an opening
-pub opened : HasOpeningLaws → (script : Script) (c : Collector) (o : Opening) → IsInLimits script → (h : OpensAt script c o) → IsOpened script c h.0 h.1 o
+pub opened : HasOpeningLaws → (script : Script) (c : Collector) (o : Opening) → FitsRun script → (h : OpensAt script c o) → IsOpened script c h.0 h.1 o
 opened laws script c o limits (run, still, is) = opened_in laws script c run limits still (last_state run).progress o refl is

@@ -1,11 +1,11 @@
 -- A round that is over: its beginning, its work, and the state of the run after it.
-use Rattle.nmgc_cycle.proofs.Vocabulary.{ℕ, ◌≡◌, ◌+◌, ◌≤◌, List, [], ◌∷◌, ◌++◌, length, map, ap, ◌∙◌, arith, Some, None, slice_get, ◌||◌, slice_get_within, map_item, World, Row, Reply, Layout, AllocState, Place, rows_in, IsFinished, places_then, now, CanOpen, Opening, Seen, Mutator, Done, HaveWorked, Script, gathered, noted, Run, last_state, slices, rest_of, some_asks, is_collect, is_full, State, Plan, plan_of, Collector, IsAfterStop, seen, seen_mutator, IsInLimits, OpensIn, DidSlice, DidSlices, replies_of, item}
+use Rattle.nmgc_cycle.proofs.Vocabulary.{ℕ, ◌≡◌, ◌+◌, ◌≤◌, List, [], ◌∷◌, ◌++◌, length, map, ap, ◌∙◌, arith, Some, None, slice_get, ◌||◌, slice_get_within, map_item, World, Row, Reply, Layout, AllocState, Place, rows_in, IsFinished, places_then, now, CanOpen, Opening, Seen, Mutator, Done, HaveWorked, Script, gathered, noted, Run, last_state, slices, rest_of, some_asks, is_collect, is_full, State, Plan, plan_of, Collector, IsAfterStop, seen, seen_mutator, FitsRun, OpensIn, DidSlice, DidSlices, replies_of, item}
 use Rattle.nmgc_collector_laws.specs.Seen as run
 use Rattle.nmgc_cycle.proofs.{rounds.Opened.IsOpened, lists.RootLists.seen_at}
 
 -- a round after this stop is over, and may be followed by a stop
 pub record IsOver (script : Script) (c new : Collector) (o : Opening) : Type 0 where
-  pub limits : IsInLimits script
+  pub limits : FitsRun script
   pub run : Run
   pub still : IsAfterStop script c run
   pub goes_on : c.answered ≡ None

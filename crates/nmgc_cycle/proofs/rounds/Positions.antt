@@ -1,5 +1,5 @@
 -- A position is the number of commands answered of its program; the rest of the program is left.
-use Rattle.nmgc_cycle.proofs.Vocabulary.{ℕ, ◌≡◌, ◌∙◌, ◌+◌, ◌-◌, ◌<◌, ◌≤◌, List, [], ◌∷◌, length, map, slice_index_or, slice_index, ap, arith, Some, slice_get, length-drop, Command, serial_of, Mutator, Script, Run, Turn, AreTurns, state_after, last_state, program_of, State, Plan, plan_of, start, answered_count, left_is_determined, slice_count, round_left, stop_left, report_cycles, Collector, IsAfterStop, IsInLimits, left_at, slice_few, serials_are_few}
+use Rattle.nmgc_cycle.proofs.Vocabulary.{ℕ, ◌≡◌, ◌∙◌, ◌+◌, ◌-◌, ◌<◌, ◌≤◌, List, [], ◌∷◌, length, map, slice_index_or, slice_index, ap, arith, Some, slice_get, length-drop, Command, serial_of, Mutator, Script, Run, Turn, AreTurns, state_after, last_state, program_of, State, Plan, plan_of, start, answered_count, left_is_determined, slice_count, round_left, stop_left, report_cycles, Collector, IsAfterStop, FitsRun, left_at, slice_few, serials_are_few}
 use Rattle.nmgc_cycle.proofs.{lists.Plans.is_runnable, lists.RootLists.serial_seen}
 
 -- the commands answered and left are the whole program
@@ -36,7 +36,7 @@ module _ (script : Script) (c : Collector) (run : Run) (still : IsAfterStop scri
       omega (arith, turns, opening, position)
 
   -- a mutator made at most one object with each command answered
-  pub serial_few : (m : Mutator) → IsInLimits script → slice_get c.mutators.items k ≡ Some m → m.serial ≤ slice_index c.positions.items k
+  pub serial_few : (m : Mutator) → FitsRun script → slice_get c.mutators.items k ≡ Some m → m.serial ≤ slice_index c.positions.items k
   serial_few m limits e =
       let next : m.serial ≡ serial_of (last_state run).world k = still.at_stop.heap.holds.roots.next k m.serial (serial_seen c.mutators.items k m e) in
       let few = serials_are_few (plan_of script) run (is_runnable script limits) still.at_stop.is_run k in

@@ -1,9 +1,9 @@
 -- A round, from its beginning to the end of its slices.
-use Rattle.nmgc_cycle.proofs.{Vocabulary.ℕ, Vocabulary.◌≡◌, Vocabulary.List, Vocabulary.length, Vocabulary.map, Vocabulary.◌∙◌, Vocabulary.Some, Vocabulary.All, Vocabulary.Round, Vocabulary.Opening, Vocabulary.RoundSeat, Vocabulary.IsAt, Vocabulary.CanOpen, Vocabulary.SlicesAreDone, Vocabulary.SlicesAreGathered, Vocabulary.Script, Vocabulary.Run, Vocabulary.last_state, Vocabulary.Collector, Vocabulary.Worker, Vocabulary.IsAfterStop, Vocabulary.IsInLimits, Vocabulary.OpensAt, Vocabulary.OpensIn, Vocabulary.MayBeAsked, Vocabulary.HaveAskRoom, Vocabulary.CanAskAll, Vocabulary.HaveAllWorked, Vocabulary.workers_of, Vocabulary.mutator_of, Vocabulary.seat_of, rounds.Gathering.AllDid, rounds.Gathering.all_did, rounds.Gathering.slices_done, Vocabulary.HasOpeningLaws, rounds.Opened.IsOpened, rounds.Opened.opened, Vocabulary.MutatorsAreReady, rounds.Readiness.HasSeats, rounds.Readiness.can_ask_all, rounds.Readiness.seats_counted, rounds.Readiness.workers_count}
+use Rattle.nmgc_cycle.proofs.{Vocabulary.ℕ, Vocabulary.◌≡◌, Vocabulary.List, Vocabulary.length, Vocabulary.map, Vocabulary.◌∙◌, Vocabulary.Some, Vocabulary.All, Vocabulary.Round, Vocabulary.Opening, Vocabulary.RoundSeat, Vocabulary.IsAt, Vocabulary.CanOpen, Vocabulary.SlicesAreDone, Vocabulary.SlicesAreGathered, Vocabulary.Script, Vocabulary.Run, Vocabulary.last_state, Vocabulary.Collector, Vocabulary.Worker, Vocabulary.IsAfterStop, Vocabulary.FitsRun, Vocabulary.OpensAt, Vocabulary.OpensIn, Vocabulary.MayBeAsked, Vocabulary.HaveAskRoom, Vocabulary.CanAskAll, Vocabulary.HaveAllWorked, Vocabulary.workers_of, Vocabulary.mutator_of, Vocabulary.seat_of, rounds.Gathering.AllDid, rounds.Gathering.all_did, rounds.Gathering.slices_done, Vocabulary.HasOpeningLaws, rounds.Opened.IsOpened, rounds.Opened.opened, Vocabulary.MutatorsAreReady, rounds.Readiness.HasSeats, rounds.Readiness.can_ask_all, rounds.Readiness.seats_counted, rounds.Readiness.workers_count}
 
 -- the round after a stop may begin
 pub record MayBegin (script : Script) (c : Collector) (o : Opening) : Type 0 where
-  pub limits : IsInLimits script
+  pub limits : FitsRun script
   pub run : Run
   pub still : IsAfterStop script c run
   pub opens : OpensIn (last_state run).progress (last_state run) c still.at_stop.heap.places o
@@ -11,7 +11,7 @@ pub record MayBegin (script : Script) (c : Collector) (o : Opening) : Type 0 whe
   pub words : List ℕ
   pub words_are : c.heap.words ≡ Some words
 
-abbrev pub may_begin : HasOpeningLaws → (script : Script) (c : Collector) (o : Opening) (words : List ℕ) → IsInLimits script → OpensAt script c o →
+abbrev pub may_begin : HasOpeningLaws → (script : Script) (c : Collector) (o : Opening) (words : List ℕ) → FitsRun script → OpensAt script c o →
     c.heap.words ≡ Some words → MayBegin script c o
 may_begin laws script c o words limits h is = record {
   limits = limits;

@@ -1,5 +1,5 @@
 -- As a round begins, each mutator with its seat may do its slice.
-use Rattle.nmgc_cycle.proofs.Vocabulary.{ℕ, zero, suc, ◌≡◌, ◌+◌, ◌<◌, List, [], ◌∷◌, length, map, refl, sym, ap, ◌∙◌, arith, Some, All, slice_get, option_map, length-map, slice_get-map, slice_get_within, get_or_from_slice_get, Layout, Round, Hand, Opening, no_hand, hand_of, RoundSeat, IsAt, opening_of, alone, alones, CanOpen, Mutator, Script, Run, Collector, IsAfterStop, IsInLimits, worker_of, workers_of, MayBeAsked, HaveAskRoom, CanAskAll, item, of_item, alones_count, MutatorsAreReady}
+use Rattle.nmgc_cycle.proofs.Vocabulary.{ℕ, zero, suc, ◌≡◌, ◌+◌, ◌<◌, List, [], ◌∷◌, length, map, refl, sym, ap, ◌∙◌, arith, Some, All, slice_get, option_map, length-map, slice_get-map, slice_get_within, get_or_from_slice_get, Layout, Round, Hand, Opening, no_hand, hand_of, RoundSeat, IsAt, opening_of, alone, alones, CanOpen, Mutator, Script, Run, Collector, IsAfterStop, FitsRun, worker_of, workers_of, MayBeAsked, HaveAskRoom, CanAskAll, item, of_item, alones_count, MutatorsAreReady}
 use Rattle.nmgc_round.specs.Seat.{seen}
 use Rattle.nmgc_mutator.specs.Ready.{IsReady}
 use Rattle.nmgc_collector_laws.specs.Rest as rest
@@ -47,7 +47,7 @@ module _ (ms : List Mutator) (o : Opening) (hands_are : o.hands ≡
       let same : seen seat ≡ alone o (0 + k) = cc (here, there) in
       same ∙ ap (alone o) zero_first
 
-module _ (begin : MutatorsAreReady) (script : Script) (c : Collector) (run : Run) (limits : IsInLimits script) (still : IsAfterStop script c run)
+module _ (begin : MutatorsAreReady) (script : Script) (c : Collector) (run : Run) (limits : FitsRun script) (still : IsAfterStop script c run)
     (o : Opening) (op : IsOpened script c run still o) (words : List ℕ) (can : CanOpen o words) (round : Round) (seats : List RoundSeat)
     (has : HasSeats o round seats) where
   -- the hand of a mutator at a round's beginning

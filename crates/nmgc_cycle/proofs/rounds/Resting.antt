@@ -9,7 +9,8 @@ use Rattle.nmgc_stop_spec.specs.{Nurseries.nursery_at, Occupied.AreBlocks, Stopp
 use Rattle.nmgc_mutator.specs.{declared.mutator.Mutator.Mutator, Ready.IsUnused, laws.Common.none_known as none_noted}
 use Rattle.nmgc_collector_laws.specs.{Rest.IsAtRest, Rest.IsResting, Seen.MutatorSeen, Seen.end_of, Seen.ends_of, Seen.nurseries_of, laws.Roots.same_registers, laws.Roots.same_queues, laws.Roots.same_serials}
 use Rattle.nmgc_collector_laws.specs.Worked as turn
-use Rattle.nmgc_script.specs.{declared.script.Script.Script, Spelling.IsInLimits}
+use Rattle.nmgc_script.specs.declared.script.Script.{Script}
+use Rattle.nmgc_run_laws.specs.Limits.{FitsRun}
 use Rattle.nmgc_run_spec.specs.{Heap.snapshots, Terms.registers_of, Terms.queues_of, Terms.serials_of, Run.Run, Run.last_state, Run.plan_of, Run.layout_of}
 use Rattle.nmgc_run_laws.specs.laws.Places.{blocks_at_stop, block_used}
 use Rattle.nmgc_cycle.specs.{declared.collector.Collector.Collector, Keeps.IsAfterStop, Shown.seen, Shown.words_in, Shown.seen_mutator}
@@ -37,7 +38,7 @@ pub nursery_seen : (ms : List Mutator) (k : ℕ) (m : Mutator) → slice_get ms 
 nursery_seen ms k m e = slice_get-map (λ (n : MutatorSeen). n.nursery) (map seen_mutator ms) k ∙
     ap (option_map (λ (n : MutatorSeen). n.nursery)) (seen_at ms k m e)
 
-module _ (script : Script) (c : Collector) (run : Run) (limits : IsInLimits script) (still : IsAfterStop script c run) where
+module _ (script : Script) (c : Collector) (run : Run) (limits : FitsRun script) (still : IsAfterStop script c run) where
   -- an address below the nurseries
   pub rest_low : (p : Place) → Contains still.at_stop.heap.places p → p.at < young_base c.heap.segments
   rest_low p held = elim ((still.at_stop.heap.all p).0 held) [

@@ -1,12 +1,12 @@
 -- The collector did a round, after its replies are reported.
-use Rattle.nmgc_cycle.proofs.{Vocabulary.ℕ, Vocabulary.◌≡◌, Vocabulary.List, Vocabulary.[], Vocabulary.◌∷◌, Vocabulary.◌++◌, Vocabulary.map, Vocabulary.sym, Vocabulary.ap, Vocabulary.subst, Vocabulary.◌∙◌, Vocabulary.Option, Vocabulary.Some, Vocabulary.None, Vocabulary.Global, Vocabulary.OnOk, Vocabulary.Result, Vocabulary.Ok, Vocabulary.Err, Vocabulary.Vec, Vocabulary.Reply, Vocabulary.is_some_of, Vocabulary.RoundRows, Vocabulary.Opening, Vocabulary.Mutator, Vocabulary.Script, Vocabulary.Collector, Vocabulary.DidRound, Vocabulary.IsInLimits, Vocabulary.OpensAt, Vocabulary.DidSlices, Vocabulary.cleared, Vocabulary.replies_of, Vocabulary.HasRoundLaws, rounds.KeptAfter.did_round, rounds.Opened.opened, rounds.Over.IsOver}
+use Rattle.nmgc_cycle.proofs.{Vocabulary.ℕ, Vocabulary.◌≡◌, Vocabulary.List, Vocabulary.[], Vocabulary.◌∷◌, Vocabulary.◌++◌, Vocabulary.map, Vocabulary.sym, Vocabulary.ap, Vocabulary.subst, Vocabulary.◌∙◌, Vocabulary.Option, Vocabulary.Some, Vocabulary.None, Vocabulary.Global, Vocabulary.OnOk, Vocabulary.Result, Vocabulary.Ok, Vocabulary.Err, Vocabulary.Vec, Vocabulary.Reply, Vocabulary.is_some_of, Vocabulary.RoundRows, Vocabulary.Opening, Vocabulary.Mutator, Vocabulary.Script, Vocabulary.Collector, Vocabulary.DidRound, Vocabulary.FitsRun, Vocabulary.OpensAt, Vocabulary.DidSlices, Vocabulary.cleared, Vocabulary.replies_of, Vocabulary.HasRoundLaws, rounds.KeptAfter.did_round, rounds.Opened.opened, rounds.Over.IsOver}
 
 -- a consequence of an answer's facts
 pub on_ok : {A E P Q : Type 0} (r : Result A E) → OnOk r P → (P → Q) → OnOk r Q
 on_ok (Ok x) h f = f h
 on_ok (Err e) h f = tt
 
-pub worked_after : HasRoundLaws → (script : Script) (c new : Collector) (o : Opening) → IsInLimits script → c.answered ≡ None → OpensAt script c o →
+pub worked_after : HasRoundLaws → (script : Script) (c new : Collector) (o : Opening) → FitsRun script → c.answered ≡ None → OpensAt script c o →
     DidSlices script o c new → (mutators : Vec Mutator Global) → mutators.items ≡ map cleared new.mutators.items → (rows : RoundRows) →
     rows.replies ≡ replies_of new.mutators.items → DidRound script c
     (record new { mutators = mutators; rows = record new.rows { rounds = new.rows.rounds ++ rows ∷ [] } })

@@ -1,7 +1,7 @@
 -- A run of programs, from stop to stop: the script so far, and the bound of its stops.
-use Rattle.nmgc_cycle.proofs.Vocabulary.{ℕ, suc, ◌≡◌, ◌↔◌, ◌+◌, ◌*◌, ◌<◌, ◌≤◌, ◌++◌, ◌∙◌, List, [], ◌∷◌, map, length, slice_get, slice_get_within, slice_index, slice_index_or, Option, Some, refl, sym, ap, subst, arith, inl, inr, append_assoc, append-nil, length-append, length-map, map-append, item, item_map, Contains, Fits, Command, Reply, Done, Config, Script, Layout, World, new_world, all_empty, ends_of, replicate, length-replicate, IsPlaceAtStop, ListsWeaks, HeapStandsFor, AreAtRest, plan_of, layout_of, RoundRows, left_from, commands_left, answered_count, Collector, IsFresh, IsInLimits, All, All-nil, All-cons, HasRegistersBelow, REGISTERS, most_script_bytes, zero, DidRound, GaveEach, DidAsk, MayRun, MayBeAsked, IsScriptSoFar, HasNoCommands, threads_of, script_of, all_replies, replies_to, most_total, option_to_list, seen}
+use Rattle.nmgc_cycle.proofs.Vocabulary.{ℕ, suc, ◌≡◌, ◌↔◌, ◌+◌, ◌*◌, ◌<◌, ◌≤◌, ◌++◌, ◌∙◌, List, [], ◌∷◌, map, length, slice_get, slice_get_within, slice_index, slice_index_or, Option, Some, refl, sym, ap, subst, arith, inl, inr, append_assoc, append-nil, length-append, map-append, item, item_map, Contains, Fits, Command, Reply, Done, Config, Script, Layout, World, new_world, all_empty, ends_of, replicate, length-replicate, IsPlaceAtStop, ListsWeaks, HeapStandsFor, AreAtRest, plan_of, layout_of, RoundRows, commands_left, answered_count, Collector, IsFresh, FitsRun, All, All-nil, All-cons, HasRegistersBelow, REGISTERS, sum_by, sum_by-cons, zero, DidRound, GaveEach, DidAsk, MayRun, MayBeAsked, IsScriptSoFar, HasNoCommands, threads_of, script_of, all_replies, replies_to, most_total, seen}
 use Rattle.nmgc_script.specs.Spelling.{version_3}
-use Rattle.nmgc_cycle.proofs.{rounds.SoFar.both, rounds.SoFar.both_at, rounds.SoFar.both_count, rounds.SoFar.gave_both, rounds.SoFar.continues_on, rounds.SoFar.limits_on, rounds.SoFar.longer_on, rounds.SoFar.more_of, rounds.SoFar.script_on, rounds.SoFar.threads_count, rounds.SoFar.waiting_few, rounds.SoFar.within_limits, rounds.Continuing.no_done, rounds.Continuing.none_given}
+use Rattle.nmgc_cycle.proofs.{lengths.Measures.left_most, rounds.SoFar.both, rounds.SoFar.both_at, rounds.SoFar.both_count, rounds.SoFar.gave_both, rounds.SoFar.continues_on, rounds.SoFar.limits_on, rounds.SoFar.longer_on, rounds.SoFar.more_of, rounds.SoFar.script_on, rounds.SoFar.threads_count, rounds.SoFar.total_few, rounds.SoFar.within_limits, rounds.Continuing.no_done, rounds.Continuing.none_given}
 
 -- a new collector is new for each script of this configuration with this number of programs
 pub fresh_for : (s : Script) (version : ℕ) (threads : List (List Command)) (c : Collector) → length threads ≡ length s.threads → IsFresh s c →
@@ -54,19 +54,35 @@ all_more [] rows k = append-nil (slice_index_or rows.replies k [])
 all_more (r ∷ rounds) rows k = ap (λ (l : List Reply). slice_index_or r.replies k [] ++ l) (all_more rounds rows k)
     ∙ sym (append_assoc (slice_index_or r.replies k []) (all_replies rounds k) (slice_index_or rows.replies k []))
 
--- a script without commands is within the limits
+-- a script without commands fits a run
 abbrev nothing : List Command
 nothing = []
+
+none_in_all : (n : ℕ) → sum_by length (replicate n nothing) ≡ 0
+none_in_all zero = refl
+none_in_all (suc n) =
+    let all = sum_by-cons length nothing (replicate n nothing) in
+    let rest = none_in_all n in
+    omega (arith, all, rest)
+
+-- one of the programs gives no more commands than all together
+one_of_total : {P : Type 0} (most : P → ℕ) (programs : List P) (k : ℕ) (p : P) → slice_get programs k ≡ Some p → most p ≤ most_total most programs
+one_of_total most [] k p e = absurd cc
+one_of_total most (q ∷ programs) zero p e =
+    let same : q ≡ p = cc in
+    let here : most q ≡ most p = ap most same in
+    omega (arith, here)
+one_of_total most (q ∷ programs) (suc k) p e = let rest = one_of_total most programs k p e in omega (arith, rest)
 
 no_commands : (F : List Command → Type 0) (n : ℕ) → F [] → All F (replicate n [])
 no_commands F zero f = All-nil F
 no_commands F (suc n) f = All-cons F [] (replicate n []) f (no_commands F n f)
 
 pub empty_limits : {P : Type 0} (words most : P → ℕ) (valid : P → Type 0) (config : Config) (before : List P) → MayRun words most valid config before →
-    (empty : Script) → HasNoCommands config (length before) empty → IsInLimits empty
+    (empty : Script) → HasNoCommands config (length before) empty → FitsRun empty
 empty_limits words most valid config before may empty none =
     let count : length (replicate (length before) nothing) ≡ length before = length-replicate (length before) nothing in
-    subst IsInLimits (sym none) (record {
+    subst FitsRun (sym none) (record {
       fits = record {
         version = refl;
         config = may.config_fits;
@@ -76,7 +92,7 @@ empty_limits words most valid config before may empty none =
         commands = no_commands (All (Fits config.words)) (length before) (All-nil (Fits config.words));
         registers = no_commands (All (HasRegistersBelow REGISTERS)) (length before) (All-nil (HasRegistersBelow REGISTERS));
       };
-      few = no_commands (λ l. length l ≤ most_script_bytes) (length before) (omega arith);
+      few = (let none = none_in_all (length before) in omega (arith, none));
     })
 
 module _ {P : Type 0} (next : P → Option Command) (steps : P → Reply → P → Type 0) (words most : P → ℕ) (valid : P → Type 0)
@@ -93,9 +109,10 @@ module _ {P : Type 0} (next : P → Option Command) (steps : P → Reply → P �
     few = λ k q e.
         let p = there k q e in
         let fewer = (gave.each k p.0 q p.2.0 p.1 e p.2.1).fewer in
-        let short = may.short k p.0 p.1 in
+        let short = may.short in
+        let one = one_of_total most before k p.0 p.1 in
         let here = at k p.2.0 p.2.1 in
-        omega (arith, fewer, short, here);
+        omega (arith, fewer, short, one, here);
   }
     where
       there : (k : ℕ) (q : P) → slice_get after k ≡ Some q → (p : P) × (slice_get before k ≡ Some p) × ((g : List Done) × (slice_get given k ≡ Some g))
@@ -200,26 +217,10 @@ module _ {P : Type 0} (next : P → Option Command) (steps : P → Reply → P �
       )
 
   -- no more stops than the programs' own bounds allow
-  total_left : (n : ℕ) (ps : List P) (given : List (List Done)) (after : List P) → length given ≡ length ps → length after ≡ length ps →
-      ((k : ℕ) (p q : P) (g : List Done) → slice_get ps k ≡ Some p → slice_get after k ≡ Some q → slice_get given k ≡ Some g →
-      length g + length (option_to_list (next q)) ≤ most p) → left_from (answered_count []) n (threads_of next given after) ≤ most_total most ps
-  total_left n [] [] [] a b each = omega arith
-  total_left n (p ∷ ps) (g ∷ given) (q ∷ after) a b each =
-      let here = each 0 p q g refl refl refl in
-      let rest = total_left (n + 1) ps given after (omega (arith, a)) (omega (arith, b)) (λ k. each (suc k)) in
-      let long = length-append (map (λ (x : Done). x.0) g) (option_to_list (next q)) in
-      let same = length-map g (λ (x : Done). x.0) in
-      omega (arith, here, rest, long, same)
-  total_left n [] [] (q ∷ after) a b each = absurd (omega (arith, b))
-  total_left n [] (g ∷ given) after a b each = absurd (omega (arith, a))
-  total_left n (p ∷ ps) [] after a b each = absurd (omega (arith, a))
-  total_left n (p ∷ ps) (g ∷ given) [] a b each = absurd (omega (arith, b))
-
   pub stops_bound : (given : List (List Done)) (after : List P) → GaveEach next steps words most valid before after given →
       commands_left (threads_of next given after) [] ≤ most_total most before
   unfolding commands_left
-  stops_bound given after gave = total_left 0 before given after gave.count gave.programs (λ k p q g e f i.
-      let h = gave.each k p q g e f i in
-      let fewer = h.fewer in
-      let waiting = waiting_few next steps words most valid waits config before may q (next q) refl h.valid_is in
-      omega (arith, fewer, waiting))
+  stops_bound given after gave =
+      let left = left_most (answered_count []) 0 (threads_of next given after) in
+      let all = total_few next steps words most valid waits config before may given after gave in
+      omega (arith, left, all)

@@ -1,5 +1,5 @@
 -- After the mutators' lists got their room, each has room for its slice.
-use Rattle.nmgc_cycle.proofs.{Vocabulary.ℕ, Vocabulary.◌≡◌, Vocabulary.◌+◌, Vocabulary.◌<◌, Vocabulary.◌≤◌, Vocabulary.length, Vocabulary.min, Vocabulary.slice_index_or, Vocabulary.ap, Vocabulary.subst, Vocabulary.arith, Vocabulary.Result, Vocabulary.Ok, Vocabulary.Err, Vocabulary.OnOk, Vocabulary.slice_get_within, Vocabulary.get_or_from_slice_get, Vocabulary.Mutator, Vocabulary.Reserves, Vocabulary.Script, Vocabulary.Run, Vocabulary.Collector, Vocabulary.IsAfterStop, Vocabulary.IsInLimits, Vocabulary.HasLists, Vocabulary.AreReserved, Vocabulary.HaveAskRoom, Vocabulary.MayBeAsked, Vocabulary.most_at, Vocabulary.most_script_bytes, Vocabulary.List, Vocabulary.slice_index, Vocabulary.item, rounds.Positions.serial_few, rounds.Reserving.most_there}
+use Rattle.nmgc_cycle.proofs.{Vocabulary.ℕ, Vocabulary.◌≡◌, Vocabulary.◌+◌, Vocabulary.◌<◌, Vocabulary.◌≤◌, Vocabulary.length, Vocabulary.min, Vocabulary.slice_index_or, Vocabulary.ap, Vocabulary.subst, Vocabulary.arith, Vocabulary.Result, Vocabulary.Ok, Vocabulary.Err, Vocabulary.OnOk, Vocabulary.slice_get_within, Vocabulary.get_or_from_slice_get, Vocabulary.Mutator, Vocabulary.Reserves, Vocabulary.Script, Vocabulary.Run, Vocabulary.Collector, Vocabulary.IsAfterStop, Vocabulary.FitsRun, Vocabulary.HasLists, Vocabulary.AreReserved, Vocabulary.HaveAskRoom, Vocabulary.MayBeAsked, Vocabulary.most_at, Vocabulary.most_commands, Vocabulary.List, Vocabulary.slice_index, Vocabulary.item, rounds.Positions.serial_few, rounds.Reserving.most_there}
 
 -- a consequence of two facts, if both hold
 pub on_both : {T E P Q R : Type 0} (r : Result T E) → (P → Q → R) → OnOk r P → OnOk r Q → OnOk r R
@@ -8,7 +8,7 @@ on_both (Err e) f p q = p
 
 -- with the commands answered a program gives few more
 most_few : {P : Type 0} (words most : P → ℕ) (valid : P → Type 0) (script : Script) (positions : List ℕ) (programs : List P) →
-    MayBeAsked words most valid script positions programs → (k : ℕ) → k < length script.threads → slice_index positions k + most_at most programs k ≤ most_script_bytes
+    MayBeAsked words most valid script positions programs → (k : ℕ) → k < length script.threads → slice_index positions k + most_at most programs k ≤ most_commands
 most_few words most valid script positions programs asked k lt =
     let p = item programs k (let n = asked.count in omega (arith, lt, n)) in
     let few = asked.few k p.0 p.1 in
@@ -16,7 +16,7 @@ most_few words most valid script positions programs asked k lt =
     omega (arith, few, there)
 
 pub asked_room : {P : Type 0} (words most : P → ℕ) (valid : P → Type 0) (script : Script) (c d : Collector) (run : Run) (programs : List P) (slice : ℕ) →
-    IsInLimits script → IsAfterStop script c run → MayBeAsked words most valid script c.positions.items programs →
+    FitsRun script → IsAfterStop script c run → MayBeAsked words most valid script c.positions.items programs →
     AreReserved c.mutators.items d.mutators.items → ((k : ℕ) (x : Mutator) → k < length c.mutators.items →
     HasLists (min slice (most_at most programs k)) (slice_index_or d.mutators.items k x)) → HaveAskRoom most slice d.mutators.items programs
 asked_room words most valid script c d run programs slice limits still asked reserved lists k m e =

@@ -1,5 +1,5 @@
 -- Positions and replies after the slices of a round, and whether a slice asked for a cycle.
-use Rattle.nmgc_cycle.proofs.Vocabulary.{ℕ, zero, suc, ◌≡◌, ◌+◌, ◌-◌, ◌<◌, ◌^◌, Bool, List, [], ◌∷◌, ◌++◌, length, map, take, drop, slice_index, refl, sym, ap, subst, ◌∙◌, arith, Option, Some, Global, slice_get, option_map, list_any, Vec, length-drop, slice_get-map, slice_get_within, get_or_from_slice_get, Round, Segments, Opening, Mutator, Ended, tried, passed, Done, Script, map_item, Run, program_of, some_asks, is_collect, is_full, Collector, Worker, IsAfterStop, IsInLimits, asks_of, asks_full_of, left_at, commands_in, mutator_of, done_by, DidSlice, item, Receiver, Sender, slice_index_or}
+use Rattle.nmgc_cycle.proofs.Vocabulary.{ℕ, zero, suc, ◌≡◌, ◌+◌, ◌-◌, ◌<◌, ◌^◌, Bool, List, [], ◌∷◌, ◌++◌, length, map, take, drop, slice_index, refl, sym, ap, subst, ◌∙◌, arith, Option, Some, Global, slice_get, option_map, list_any, Vec, length-drop, slice_get-map, slice_get_within, get_or_from_slice_get, Round, Segments, Opening, Mutator, Ended, tried, passed, Done, Script, map_item, Run, program_of, some_asks, is_collect, is_full, Collector, Worker, IsAfterStop, FitsRun, asks_of, asks_full_of, left_at, commands_in, mutator_of, done_by, DidSlice, item, Receiver, Sender, slice_index_or}
 use Rattle.nmgc_cycle.specs.declared.progress.Progress as held
 use Rattle.nmgc_cycle.proofs.{rounds.Asking.same_any, rounds.Asking.any_mapped, rounds.Gathering.AllDid, rounds.Gathering.OneDid, lists.Plans.program_few, rounds.Positions.position_within, rounds.Slicing.commands_of}
 
@@ -18,7 +18,7 @@ done_of [] k d lt = absurd (omega (arith, lt))
 done_of (w ∷ ws) zero d lt = refl
 done_of (w ∷ ws) (suc k) d lt = done_of ws k d (omega (arith, lt))
 
-module _ (script : Script) (c : Collector) (run : Run) (limits : IsInLimits script) (still : IsAfterStop script c run) (o : Opening) (round : Round)
+module _ (script : Script) (c : Collector) (run : Run) (limits : FitsRun script) (still : IsAfterStop script c run) (o : Opening) (round : Round)
     (new : List Worker) (count : length new ≡ length c.mutators.items) (did : AllDid script c round o new) where
   pub positions_counted : length c.positions.items ≡ length new
   positions_counted = still.kept.positions_are ∙ sym (count ∙ still.kept.count)

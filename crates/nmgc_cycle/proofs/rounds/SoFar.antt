@@ -1,5 +1,5 @@
--- The script of a run of programs so far: after a round it is longer, and it is within the limits.
-use Rattle.nmgc_cycle.proofs.Vocabulary.{ℕ, zero, suc, ◌≡◌, ◌⊎◌, ◌+◌, ◌*◌, ◌<◌, ◌≤◌, ◌++◌, ◌∙◌, List, [], ◌∷◌, map, drop, length, slice_get, slice_index, Option, None, Some, refl, sym, ap, subst, arith, inl, inr, append_assoc, map-append, length-append, length-map, drop_at, All, All-nil, All-cons, All-append, All-head, All-tail, slice_get_within, Fits, HasRegistersBelow, REGISTERS, Command, Reply, Done, Config, Script, most_script_bytes, program_of, longer, longer_script, left_at, Gives, Follows, GaveEach, Continues, FollowEach, CanContinue, MayBeLonger, MayRun, IsInLimits, threads_of, script_of, option_to_list, item}
+-- The script of a run of programs so far: after a round it is longer, and it fits a run.
+use Rattle.nmgc_cycle.proofs.Vocabulary.{ℕ, zero, suc, ◌≡◌, ◌⊎◌, ◌+◌, ◌*◌, ◌<◌, ◌≤◌, ◌++◌, ◌∙◌, List, [], ◌∷◌, map, drop, length, slice_get, slice_index, Option, None, Some, refl, sym, ap, subst, arith, inl, inr, append_assoc, map-append, length-append, length-map, drop_at, All, All-nil, All-cons, All-append, All-head, All-tail, slice_get_within, Fits, HasRegistersBelow, REGISTERS, Command, Reply, Done, Config, Script, most_total, sum_by, sum_by-cons, program_of, longer, longer_script, left_at, Gives, Follows, GaveEach, Continues, FollowEach, CanContinue, MayBeLonger, MayRun, FitsRun, threads_of, script_of, option_to_list, item}
 use Rattle.nmgc_script.specs.Spelling.{version_3}
 
 -- One program
@@ -157,13 +157,38 @@ module _ {P : Type 0} (next : P → Option Command) (steps : P → Reply → P �
   waiting_fits q None e v le = All-nil (Fits config.words)
   waiting_fits q (Some c) e v le = all_wider (words q) config.words (c ∷ []) le (All-cons (Fits (words q)) c [] (waits q c v e).0 (All-nil (Fits (words q))))
 
-  pub waiting_few : (q : P) (o : Option Command) → next q ≡ o → valid q → length (option_to_list o) ≤ most q
+  waiting_few : (q : P) (o : Option Command) → next q ≡ o → valid q → length (option_to_list o) ≤ most q
   waiting_few q None e v = omega arith
   waiting_few q (Some c) e v = let some = (waits q c v e).1 in omega (arith, some)
 
-  -- the script so far is within the limits
+  -- as a sum over all programs: each gave commands, and may have one that waits, within its own bound
+  total_most : (ps : List P) (given : List (List Done)) (after : List P) → length given ≡ length ps → length after ≡ length ps →
+      ((k : ℕ) (p q : P) (g : List Done) → slice_get ps k ≡ Some p → slice_get after k ≡ Some q → slice_get given k ≡ Some g →
+      length g + length (option_to_list (next q)) ≤ most p) → sum_by length (threads_of next given after) ≤ most_total most ps
+  total_most [] [] [] a b each = omega arith
+  total_most (p ∷ ps) (g ∷ given) (q ∷ after) a b each =
+      let here = each 0 p q g refl refl refl in
+      let rest = total_most ps given after (omega (arith, a)) (omega (arith, b)) (λ k. each (suc k)) in
+      let all = sum_by-cons length (map (λ (x : Done). x.0) g ++ option_to_list (next q)) (threads_of next given after) in
+      let long = length-append (map (λ (x : Done). x.0) g) (option_to_list (next q)) in
+      let same = length-map g (λ (x : Done). x.0) in
+      omega (arith, here, rest, all, long, same)
+  total_most [] [] (q ∷ after) a b each = absurd (omega (arith, b))
+  total_most [] (g ∷ given) after a b each = absurd (omega (arith, a))
+  total_most (p ∷ ps) [] after a b each = absurd (omega (arith, a))
+  total_most (p ∷ ps) (g ∷ given) [] a b each = absurd (omega (arith, b))
+
+  pub total_few : (given : List (List Done)) (after : List P) → GaveEach next steps words most valid before after given →
+      sum_by length (threads_of next given after) ≤ most_total most before
+  total_few given after gave = total_most before given after gave.count gave.programs (λ k p q g e f i.
+      let h = gave.each k p q g e f i in
+      let fewer = h.fewer in
+      let waiting = waiting_few q (next q) refl h.valid_is in
+      omega (arith, fewer, waiting))
+
+  -- the script so far fits a run
   pub within_limits : (given : List (List Done)) (after : List P) → GaveEach next steps words most valid before after given →
-      IsInLimits (script_of next config given after)
+      FitsRun (script_of next config given after)
   within_limits given after gave = record {
     fits = record {
       version = refl;
@@ -174,7 +199,7 @@ module _ {P : Type 0} (next : P → Option Command) (steps : P → Reply → P �
       commands = all_threads next (All (Fits config.words)) given after same_count fit;
       registers = all_threads next (All (HasRegistersBelow REGISTERS)) given after same_count (λ k g q e f. all_registers config.words _ (fit k g q e f));
     };
-    few = all_threads next (λ l. length l ≤ most_script_bytes) given after same_count few;
+    few = (let all = total_few given after gave in let short = may.short in omega (arith, all, short));
   }
     where
       same_count : length given ≡ length after
@@ -191,18 +216,6 @@ module _ {P : Type 0} (next : P → Option Command) (steps : P → Reply → P �
           let le = may.fit k p.0 p.1 in
           All-append (Fits config.words) (map (λ (x : Done). x.0) g) (option_to_list (next q)) (all_wider (words p.0) config.words _ le h.fit)
           (waiting_fits q (next q) refl h.valid_is (let same = h.words_are in omega (arith, same, le)))
-
-      few : (k : ℕ) (g : List Done) (q : P) → slice_get given k ≡ Some g → slice_get after k ≡ Some q →
-          length (map (λ (x : Done). x.0) g ++ option_to_list (next q)) ≤ most_script_bytes
-      few k g q e f =
-          let p = item before k (let n = gave.programs in subst (λ (n : ℕ). k < n) n (slice_get_within after k q f)) in
-          let h = gave.each k p.0 q g p.1 f e in
-          let short = may.short k p.0 p.1 in
-          let fewer = h.fewer in
-          let waiting = waiting_few q (next q) refl h.valid_is in
-          let long = length-append (map (λ (x : Done). x.0) g) (option_to_list (next q)) in
-          let same = length-map g (λ (x : Done). x.0) in
-          omega (arith, short, fewer, waiting, long, same)
 
   -- a further round's commands follow those given before
   pub gave_both : (given done : List (List Done)) (mid after : List P) → GaveEach next steps words most valid before mid given →
@@ -281,9 +294,9 @@ module _ {P : Type 0} (next : P → Option Command) (steps : P → Reply → P �
           follows_waiting (next q),
         )
 
-    -- the longer script is within the limits
-    pub limits_on : IsInLimits (longer_script (more_of next steps mid after done) (script_of next config given mid))
-    limits_on = subst IsInLimits (sym (script_on given mid after done gave then))
+    -- the longer script fits a run
+    pub limits_on : FitsRun (longer_script (more_of next steps mid after done) (script_of next config given mid))
+    limits_on = subst FitsRun (sym (script_on given mid after done gave then))
         (within_limits (both next steps given done) after (gave_both given done mid after gave then))
 
   -- a round may follow: the script goes on with the commands that the programs give in it

@@ -1,5 +1,5 @@
 -- The beginning of a stop, whether the collector is new or did a round.
-use Rattle.nmgc_cycle.proofs.Vocabulary.{ℕ, ◌≡◌, ◌+◌, ◌<◌, ◌≤◌, ◌⊎◌, List, [], ◌∷◌, ◌++◌, length, drop, slice_index_or, arith, refl, sym, ap, subst, ◌∙◌, inl, inr, append-nil, Option, Some, None, Contains, IsSome, drop-drop, length-map, Command, Row, World, IsWorld, node_of, new_world, Node, Con, Var, Arr, Thunk, Weak, Stack, Parts, contains_head, flat_contains, is_some_of, nothing_in, place_in, new_is_world, Header, nursery_place, Mutator, numbers_of, AllocState, StandsFor, first_cells, Place, ListsWeaks, header_of, Stopped, IsStopped, young_base, CycleRow, RoundRows, StopRow, Script, AreNurseries, IsEmptied, IsPacedAfterRound, HoldsInCycle, Matches, ListsFinalised, finalised_of, IsInCourse, IsStateInCourse, IsPlaceAtStop, registers_of, queues_of, noted, Run, Turn, IsRun, IsTurn, AreRowsOf, last_state, with_turn, ends_of, nurseries_of, recorded_in, young_weaks_in, program_of, IsAble, IsInCycle, AreSoundBlocks, IsSoundRound, LieKnown, Plan, State, Progress, idle, marking, sweeping, start, plan_of, layout_of, Cycle, answered_count, IsStop, runs_are, rounds_stay, round_left, left_is_determined, round_is_remembered, states_are_sound, rounds_are_sound, opening_worked, start_programs, a_run_takes_a_further_round, last_is_of_turn, one_more_turn, AreNamed, named_first, Collector, AreFew, CanStop, IsFresh, HasWorked, Sweeps, seen, seen_mutator, report_cycles, IsInLimits, CanList, StandsStopped, places_of, segment_low, slice_get}
+use Rattle.nmgc_cycle.proofs.Vocabulary.{ℕ, ◌≡◌, ◌+◌, ◌<◌, ◌≤◌, ◌⊎◌, List, [], ◌∷◌, ◌++◌, length, drop, slice_index_or, arith, refl, sym, ap, subst, ◌∙◌, inl, inr, append-nil, Option, Some, None, Contains, IsSome, drop-drop, length-map, Command, Row, World, IsWorld, node_of, new_world, Node, Con, Var, Arr, Thunk, Weak, Stack, Parts, contains_head, flat_contains, is_some_of, nothing_in, place_in, new_is_world, Header, nursery_place, Mutator, numbers_of, AllocState, StandsFor, first_cells, Place, ListsWeaks, header_of, Stopped, IsStopped, young_base, CycleRow, RoundRows, StopRow, Script, AreNurseries, IsEmptied, IsPacedAfterRound, HoldsInCycle, Matches, ListsFinalised, finalised_of, IsInCourse, IsStateInCourse, IsPlaceAtStop, registers_of, queues_of, noted, Run, Turn, IsRun, IsTurn, AreRowsOf, last_state, with_turn, ends_of, nurseries_of, recorded_in, young_weaks_in, program_of, IsAble, IsInCycle, AreSoundBlocks, IsSoundRound, LieKnown, Plan, State, Progress, idle, marking, sweeping, start, plan_of, layout_of, Cycle, answered_count, IsStop, runs_are, rounds_stay, round_left, left_is_determined, round_is_remembered, states_are_sound, rounds_are_sound, opening_worked, start_programs, a_run_takes_a_further_round, last_is_of_turn, one_more_turn, AreNamed, named_first, Collector, AreFew, CanStop, IsFresh, HasWorked, Sweeps, seen, seen_mutator, report_cycles, FitsRun, CanList, StandsStopped, places_of, segment_low, slice_get}
 use Rattle.nmgc_run_laws.specs.Sound.{AreEarlier}
 use Rattle.nmgc_world_spec.specs.declared.node.Kind.TheVariants as kind
 use Rattle.nmgc_segment.specs.declared.state.State.TheVariants as stands
@@ -104,7 +104,7 @@ can_list_of t c h listed reported =
 
 -- a new collector
 
-new_begins : (script : Script) (c : Collector) → IsInLimits script → IsFresh script c → Begins script c
+new_begins : (script : Script) (c : Collector) → FitsRun script → IsFresh script c → Begins script c
 new_begins script c limits f =
     let plan : Plan = plan_of script in
     let runnable = is_runnable script limits in
@@ -172,7 +172,7 @@ from_before (sweeping c closed) number begun a rows h k e = absurd (let bad : sw
 
 -- a collector that did a round
 
-module _ (script : Script) (c : Collector) (limits : IsInLimits script) (h : HasWorked script c) where
+module _ (script : Script) (c : Collector) (limits : FitsRun script) (h : HasWorked script c) where
   abbrev plan : Plan
   plan = plan_of script
 
@@ -266,12 +266,12 @@ module _ (script : Script) (c : Collector) (limits : IsInLimits script) (h : Has
     goes_on = goes_on;
   }
 
-pub begins : (script : Script) (c : Collector) → IsInLimits script → CanStop script c → Begins script c
+pub begins : (script : Script) (c : Collector) → FitsRun script → CanStop script c → Begins script c
 begins script c limits (inl fresh) = new_begins script c limits fresh
 begins script c limits (inr worked) = worked_begins script c limits worked
 
 -- a stop after a round is the last stop of a run with that round
-pub one_turn : (script : Script) (c : Collector) (limits : IsInLimits script) (h : HasWorked script c) (t : State) (row : StopRow)
+pub one_turn : (script : Script) (c : Collector) (limits : FitsRun script) (h : HasWorked script c) (t : State) (row : StopRow)
     (cycles : List CycleRow) (stop : IsStop (plan_of script) (begins script c limits (inr h)).began (begins script c limits (inr h)).state t row
     cycles) → (turn : Turn) × (turn.replies ≡ record { replies = h.replies }) × (turn.worked ≡ h.worked) × (turn.history ≡ h.history) ×
     (((begins script c limits (inr h)).goes_on t row cycles stop).run ≡ with_turn h.run turn)

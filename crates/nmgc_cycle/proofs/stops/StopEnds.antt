@@ -1,5 +1,5 @@
 -- The answer of a stop and its reason, by the steps of the stop and the values read at its end.
-use Rattle.nmgc_cycle.proofs.Vocabulary.{ℕ, ◌≡◌, ◌<◌, ◌≤◌, ◌⊎◌, ◌↔◌, List, [], ◌∷◌, ◌++◌, length, refl, sym, ap, subst, ◌∙◌, arith, inl, inr, Bool, true, false, Option, IsTrue, count_by, Segment, reserve_count, is, counts_stand, CycleRow, End, Phase, RoundRows, StopRow, Script, Run, Turn, with_turn, has_left, run_free, reserve_of, plan_of, answered_count, stop_row, Collector, StopEnd, HasTaken, Closes, HasClosed, Ends, ProceedsThen, CanStop, IsAfterStop, HasStopped, HasAnswered, HasWorked, StopsAfter, phase_in, words_in, IsInLimits, HasStopLaws, HasPromoted, HasListed, SomeIsLeft, IsDone, IsHeapFullAt, ended_by, slice_index}
+use Rattle.nmgc_cycle.proofs.Vocabulary.{ℕ, ◌≡◌, ◌<◌, ◌≤◌, ◌⊎◌, ◌↔◌, List, [], ◌∷◌, ◌++◌, length, refl, sym, ap, subst, ◌∙◌, arith, inl, inr, Bool, true, false, Option, IsTrue, count_by, Segment, reserve_count, is, counts_stand, CycleRow, End, Phase, RoundRows, StopRow, Script, Run, Turn, with_turn, has_left, run_free, reserve_of, plan_of, answered_count, stop_row, Collector, StopEnd, HasTaken, Closes, HasClosed, Ends, ProceedsThen, CanStop, IsAfterStop, HasStopped, HasAnswered, HasWorked, StopsAfter, phase_in, words_in, FitsRun, HasStopLaws, HasPromoted, HasListed, SomeIsLeft, IsDone, IsHeapFullAt, ended_by, slice_index}
 use Rattle.nmgc_segment.specs.declared.state.State.TheVariants as stands
 use Rattle.nmgc_journal.specs.declared.report.Phase.TheVariants as phase
 use Rattle.nmgc_cycle.specs.declared.stop.StopEnd.TheVariants as answer
@@ -115,7 +115,7 @@ module _ (script : Script) (c : Collector) (r : IsRead script c) where
 
 -- the run
 
-module _ (laws : HasStopLaws) (script : Script) (old new : Collector) (limits : IsInLimits script) (x : IsStepped script old new)
+module _ (laws : HasStopLaws) (script : Script) (old new : Collector) (limits : FitsRun script) (x : IsStepped script old new)
     (r : IsRead script new) (many : ℕ) (many_is : many ≡ length x.promoted.heap.promotion.moves) where
   abbrev pub row : StopRow
   row = record { number = x.number; phase = r.phase; free = r.free; filled = r.filled; sweep = r.sweep; promoted = many }

@@ -1,5 +1,5 @@
 -- The steps of a stop, from its beginning on: after each the collector represents a state of the run at this stop.
-use Rattle.nmgc_cycle.proofs.Vocabulary.{ℕ, ◌≡◌, ◌↔◌, ◌+◌, ◌<◌, ◌≤◌, List, ◌++◌, length, sym, ap, subst, ◌∙◌, arith, inl, inr, Bool, IsTrue, append_assoc, World, CycleRow, RoundRows, StopRow, Script, AreLeft, ClosesOrWaits, Promotes, EndsOrWaits, Proceeds, has_left, State, Progress, idle, marking, sweeping, phase_of, plan_of, layout_of, answered_count, Collector, Marking, Sweeping, Doing, HasTaken, Closes, HasClosed, Ends, BeginsThen, AreFew, HasMore, HasFinished, ProceedsThen, StandsAtStop, CanStop, IsWellFormed, Sweeps, seen, words_in, phase_in, sweeper_in, report_cycles, IsInLimits, StandsPromoted, StandsWithin, StandsAt, HasStopLaws, HasPromoted, HasListed, SomeIsLeft, slice_index}
+use Rattle.nmgc_cycle.proofs.Vocabulary.{ℕ, ◌≡◌, ◌↔◌, ◌+◌, ◌<◌, ◌≤◌, List, ◌++◌, length, sym, ap, subst, ◌∙◌, arith, inl, inr, Bool, IsTrue, append_assoc, World, CycleRow, RoundRows, StopRow, Script, AreLeft, ClosesOrWaits, Promotes, EndsOrWaits, Proceeds, has_left, State, Progress, idle, marking, sweeping, phase_of, plan_of, layout_of, answered_count, Collector, Marking, Sweeping, Doing, HasTaken, Closes, HasClosed, Ends, BeginsThen, AreFew, HasMore, HasFinished, ProceedsThen, StandsAtStop, CanStop, IsWellFormed, Sweeps, seen, words_in, phase_in, sweeper_in, report_cycles, FitsRun, StandsPromoted, StandsWithin, StandsAt, HasStopLaws, HasPromoted, HasListed, SomeIsLeft, slice_index}
 use Rattle.nmgc_journal.specs.declared.report.Phase.TheVariants as phase
 use Rattle.nmgc_cycle.specs.declared.progress.Progress.TheVariants as doing
 use Rattle.nmgc_cycle.proofs.stops.AfterPromotion as after
@@ -65,7 +65,7 @@ left_sweeping s c idle e h w is = absurd (let bad : phase.Sweeping ≡ phase.Idl
 left_sweeping s c (marking k) e h w is = subst (λ (p : Doing). AreLeft c.heap.segments (sweeper_in p)) is h.0.left
 left_sweeping s c (sweeping k closed) e h w is = subst (λ (p : Doing). AreLeft c.heap.segments (sweeper_in p)) is h.0
 
-module _ (laws : HasStopLaws) (script : Script) (old p : Collector) (limits : IsInLimits script) (can : CanStop script old) (h : HasPromoted old p)
+module _ (laws : HasStopLaws) (script : Script) (old p : Collector) (limits : FitsRun script) (can : CanStop script old) (h : HasPromoted old p)
     (listed : HasListed old p) where
   abbrev b : Begins script old
   b = begins script old limits can

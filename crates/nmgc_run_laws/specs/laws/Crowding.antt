@@ -1,15 +1,15 @@
 -- The last stop of a run that ends as heap full did a full cycle, and is crowded. So every lawful report is one of its run.
-use Rattle.std.proofs.{Common.ℕ, Common.◌≡◌, Common.◌+◌, Common.◌<◌, Common.◌≤◌, Common.List, Common.[], Common.◌∷◌, Common.◌++◌, Common.length, Common.arith, Common.refl, Common.sym, Common.ap, Common.subst, Common.◌∙◌, Common.Bool, Common.true, Common.Some, Common.None, Common.inl, Common.inr, lemmas.Bool.ltb-true, lemmas.Bool.cases_lt, lemmas.List.get_or_past, lemmas.List.Elements.All-get_or}
-use Rattle.std.specs.Prelude.{nat_lt, ◌&&◌, if◌then◌else◌}
+use Rattle.std.proofs.{Common.ℕ, Common.◌≡◌, Common.◌+◌, Common.◌<◌, Common.◌≤◌, Common.List, Common.[], Common.◌∷◌, Common.◌++◌, Common.length, Common.arith, Common.refl, Common.sym, Common.ap, Common.subst, Common.◌∙◌, Common.Bool, Common.true, Common.Some, Common.None, Common.inl, Common.inr, Common.zero, Common.suc, Common.◌*◌, lemmas.Bool.ltb-true, lemmas.List.Sums.sum_by-cons, lemmas.List.Sums.sum_by-le}
+use Rattle.std.specs.Prelude.{sum_by, nat_lt, ◌&&◌, if◌then◌else◌}
 use Rattle.nmgc_lists.specs.laws.Truths.{and_both}
 use Rattle.nmgc_world_spec.specs.{declared.command.Command.Command, World.World, World.new_world, Reach.IsKept, Reach.Counts}
 use Rattle.nmgc_alloc.specs.laws.Cells.{all_swept}
 use Rattle.nmgc_journal.specs.{declared.report.CycleRow.CycleRow, declared.report.Report.Report, declared.report.End.End, declared.report.End.TheVariants.Done, declared.report.End.TheVariants.HeapFull, Text.kept_count}
 use Rattle.nmgc_limits.specs.Limits.{most_script_bytes}
-use Rattle.nmgc_script.specs.{Spelling.FitsScript, declared.script.Script.Script, Parts.HasFewCommands}
+use Rattle.nmgc_script.specs.{Spelling.IsInLimits, declared.script.Script.Script, laws.Versions.threads_few}
 use Rattle.nmgc_stop_spec.specs.Cycle.{ExceptShared, IsKeptIn, Cycle}
 use Rattle.nmgc_run_spec.specs.{Lawful.StopInRun, Lawful.last_after, Lawful.last_stop, Lawful.IsCrowded, Lawful.LeavesHeapFull, Lawful.IsHeapFull, Lawful.IsRunOf, Lawful.IsLawful, Run.Run, Run.Turn, Run.IsRun, Run.IsTurn, Run.AreTurns, Run.state_after, Run.last_state, Run.has_left, Run.State, Run.Plan, Run.Progress, Run.idle, Run.marking, Run.sweeping, Run.free_count, Run.cycle_started, Run.next_cycle, Run.plan_of, Run.start, Run.EndsOrWaits, Run.Finishes, Run.DoesFullCycle, Run.Proceeds, Run.is_short, Run.answer_of, AfterRound.program_of, Terms.reserve_of, Terms.with_all_retired, Terms.is_done, Terms.SweepsRest}
-use Rattle.nmgc_run_laws.specs.{Statements.LawfulAreOfRuns, Sound.IsRunnable, laws.CycleCounts.free_kept, laws.FullHeaps.full_crowded, laws.FullHeaps.full_short, laws.FullHeaps.kept_last, laws.FullHeaps.full_heap_is_crowded, laws.Limits.scripts_have_good_plans, laws.Programs.HasPrograms, laws.Runs.round_holds, laws.Runs.turn_holds, laws.Runs.opening_worked, laws.Runs.opening_holds, laws.States.IsSoundHere, laws.States.Worked, laws.States.lefts, laws.Stops.stop_holds}
+use Rattle.nmgc_run_laws.specs.{Limits.FitsRun, Limits.most_commands, Statements.LawfulAreOfRuns, Sound.IsRunnable, laws.CycleCounts.free_kept, laws.FullHeaps.full_crowded, laws.FullHeaps.full_short, laws.FullHeaps.kept_last, laws.FullHeaps.full_heap_is_crowded, laws.Limits.scripts_have_good_plans, laws.Programs.HasPrograms, laws.Runs.round_holds, laws.Runs.turn_holds, laws.Runs.opening_worked, laws.Runs.opening_holds, laws.States.IsSoundHere, laws.States.Worked, laws.States.lefts, laws.Stops.stop_holds}
 
 -- the objects that a full cycle keeps
 
@@ -146,22 +146,37 @@ kept_many script report Done lawful runnable e full = absurd full
 kept_many script report (HeapFull free reserve) lawful runnable e full =
     full_heap_is_crowded (plan_of script) lawful.run report.rounds report.stops report.cycles free reserve runnable lawful.is_run lawful.agrees e
 
--- a program has no more commands than a script may have bytes, and so it is short enough for serials
-pub few_in_each : (script : Script) → HasFewCommands script → (m : ℕ) → length (program_of script.threads m) ≤ most_script_bytes
-few_in_each script few m = elim (cases_lt m (length script.threads)) [
-  | inl lt ↦ All-get_or (λ (program : List Command). length program ≤ most_script_bytes) script.threads m [] lt few
-  | inr past ↦ let none : length (program_of script.threads m) ≡ 0 = ap length (get_or_past script.threads m [] past) in omega arith
-]
+-- a program has no more commands than all together, and so it is short enough for serials
+one_of_all : (programs : List (List Command)) (m : ℕ) → length (program_of programs m) ≤ sum_by length programs
+one_of_all [] m = omega arith
+one_of_all (p ∷ programs) zero = let all = sum_by-cons length p programs in omega (arith, all)
+one_of_all (p ∷ programs) (suc m) =
+    let all = sum_by-cons length p programs in
+    let rest = one_of_all programs m in
+    omega (arith, all, rest)
 
-pub runnable_of : (script : Script) → FitsScript script → HasFewCommands script → IsRunnable (plan_of script)
-runnable_of script fits few = (scripts_have_good_plans script fits).runnable (λ m. let short = few_in_each script few m in omega (arith, short))
+pub few_in_each : (script : Script) → FitsRun script → (m : ℕ) → length (program_of script.threads m) ≤ most_commands
+few_in_each script h m = let one = one_of_all script.threads m in let few = h.few in omega (arith, one, few)
 
--- a lawful report of a script within the limits is a report of its run, for which it is lawful
+pub runnable_of : (script : Script) → FitsRun script → IsRunnable (plan_of script)
+runnable_of script h = (scripts_have_good_plans script h.fits).runnable (λ m. let short = few_in_each script h m in omega (arith, short))
+
+-- a script within the limits of scripts fits a run
+pub in_limits_fit : (script : Script) → IsInLimits script → FitsRun script
+in_limits_fit script limits = record {
+  fits = limits.fits;
+  few =
+      let all : sum_by length script.threads ≤ length script.threads * most_script_bytes = sum_by-le length most_script_bytes script.threads limits.few in
+      let threads = threads_few script limits.fits in
+      omega (arith, all, threads);
+}
+
+-- a lawful report of a script that fits a run is a report of its run, for which it is lawful
 pub lawful_are_of_runs : LawfulAreOfRuns
-lawful_are_of_runs script report fits few lawful =
+lawful_are_of_runs script report fits lawful =
     let plan : Plan = plan_of script in
     let run : Run = lawful.run in
-    let runnable : IsRunnable plan = runnable_of script fits few in
+    let runnable : IsRunnable plan = runnable_of script fits in
     let last : (last_stop plan run lawful.is_run).stop.state ≡ last_state run = run_last plan run lawful.is_run in
     let claim : Claim plan (last_stop plan run lawful.is_run) = run_claim plan run lawful.is_run runnable in
     let short : IsHeapFull report.end → is_short plan (last_stop plan run lawful.is_run).stop.state ≡ true = λ full.

@@ -2,7 +2,7 @@
 --
 -- Only names of the world lie in blocks, blocks lie apart, and each within its segment. So objects that fit their blocks lie apart too.
 use Rattle.std.specs.Prelude.{◌≡◌, ◌≢◌, ◌⊎◌, ◌+◌, ◌*◌, ◌<◌, ◌≤◌, ◌∷◌, slice_index, map}
-use Rattle.nmgc_run_laws.specs.laws.Vocabulary.{ℕ, List, [], length, arith, refl, sym, ap, subst, ◌∙◌, inl, inr, true, Some, Contains, contains_cases, contains_head, contains_tail, nothing_in, Name, World, IsWorld, Node, node_of, shared_name, IsWide, IsInOrder, begins, SHARED_MAKER, name_word, Layout, block_size, nursery_place, large, nth, block_place, HasNumber, StandsFor, AllocState, Cells, LiesIn, cells, name_in, none_some, Place, shared_place, Represents, NoNode, IsTracked, tracked_wide, IsBlockPlace, MutatorEnd, slice_get, Report, Script, FitsScript, HasFewCommands, Plan, State, Progress, idle, marking, sweeping, is_idle, plan_of, layout_of, snapshots, last_state, AreSoundBlocks, LieKnown}
+use Rattle.nmgc_run_laws.specs.laws.Vocabulary.{ℕ, List, [], length, arith, refl, sym, ap, subst, ◌∙◌, inl, inr, true, Some, Contains, contains_cases, contains_head, contains_tail, nothing_in, Name, World, IsWorld, Node, node_of, shared_name, IsWide, IsInOrder, begins, SHARED_MAKER, name_word, Layout, block_size, nursery_place, large, nth, block_place, HasNumber, StandsFor, AllocState, Cells, LiesIn, cells, name_in, none_some, Place, shared_place, Represents, NoNode, IsTracked, tracked_wide, IsBlockPlace, MutatorEnd, slice_get, Report, Script, Plan, State, Progress, idle, marking, sweeping, is_idle, plan_of, layout_of, snapshots, last_state, AreSoundBlocks, LieKnown}
 use Rattle.std.proofs.{Common.lit≤, Common.lit<, Math.Nat.mul-le-mul_right, lemmas.Bool.cases_order}
 use Rattle.nmgc_lists.specs.laws.{Items.contains_map, Items.map_contains, Options.some_is}
 use Rattle.nmgc_world_spec.specs.{declared.node.Node.TheVariants.Con, declared.node.Node.TheVariants.Var, declared.node.Node.TheVariants.Arr, declared.node.Node.TheVariants.Thunk, declared.node.Node.TheVariants.Weak, declared.node.Node.TheVariants.Stack, declared.node.Parts.Parts, World.IsShared, Reach.IsAlive, Reach.IsAliveWeak}
@@ -10,7 +10,7 @@ use Rattle.nmgc_object.specs.{declared.size.TheConstants.HEADER_WORDS, Words.hea
 use Rattle.nmgc_alloc.specs.laws.Placing.{fits, step}
 use Rattle.nmgc_heap_spec.specs.{Objects.header_of, Objects.size_of, Objects.LiesInSegment, Represents.IsNamed, Represents.IsObject, Represents.IsPlaced, Roots.IsListedWeak, laws.Roots.wide_tracked, laws.Written.world_is_written}
 use Rattle.nmgc_run_spec.specs.{AtStop.HasHeapOfStop, AtStop.IsLawfulAtStop, Lawful.IsLawful, Lawful.HasObject, Lawful.IsMutatorAtEnd, Lawful.HoldsAtEnd}
-use Rattle.nmgc_run_laws.specs.Ends.{EndsAreStops}
+use Rattle.nmgc_run_laws.specs.{Ends.EndsAreStops, Limits.FitsRun}
 use Rattle.nmgc_run_laws.specs.laws.{Mutators.each_at_end, Mutators.all_registers, Mutators.roots_at_end, Places.lies_exists, Places.lies_within, CycleCounts.end_is_idle, Crowding.runnable_of, Limits.scripts_have_good_plans, Limits.states_are_within, Runs.states_are_sound}
 use Rattle.nmgc_segment.specs.declared.state.State.TheVariants as stands
 
@@ -394,11 +394,11 @@ module _ (layout : Layout) (s : State) (report : Report)
   )
 
 pub ends_are_stops : EndsAreStops
-ends_are_stops script report run fits few i e =
+ends_are_stops script report run fits i e =
     let plan : Plan = plan_of script in
     let s : State = last_state run in
-    let good = scripts_have_good_plans script fits in
-    let runnable = runnable_of script fits few in
+    let good = scripts_have_good_plans script fits.fits in
+    let runnable = runnable_of script fits in
     let state = states_are_sound plan run runnable i in
     let within = (states_are_within plan run runnable good.fit i).world in
     let idled = none_kept s.progress (end_is_idle plan run report.end i e) in (
@@ -409,16 +409,16 @@ ends_are_stops script report run fits few i e =
 
 -- so a lawful report with the heap of a stop is lawful, and a lawful report has the heap of a stop
 
-pub stop_is_lawful : (script : Script) (report : Report) → FitsScript script → HasFewCommands script → IsLawfulAtStop (plan_of script) report →
+pub stop_is_lawful : (script : Script) (report : Report) → FitsRun script → IsLawfulAtStop (plan_of script) report →
     IsLawful script report
-stop_is_lawful script report fits few l = record {
+stop_is_lawful script report fits l = record {
   run = l.run;
   is_run = l.is_run;
   agrees = l.agrees;
   end_is = l.end_is;
-  heap = (ends_are_stops script report l.run fits few l.is_run l.end_is).1 l.heap;
+  heap = (ends_are_stops script report l.run fits l.is_run l.end_is).1 l.heap;
 }
 
-pub heap_at_stop : (script : Script) (report : Report) → FitsScript script → HasFewCommands script → (l : IsLawful script report) →
+pub heap_at_stop : (script : Script) (report : Report) → FitsRun script → (l : IsLawful script report) →
     HasHeapOfStop (layout_of (plan_of script)) (last_state l.run) report
-heap_at_stop script report fits few l = (ends_are_stops script report l.run fits few l.is_run l.end_is).0 l.heap
+heap_at_stop script report fits l = (ends_are_stops script report l.run fits l.is_run l.end_is).0 l.heap

@@ -8,7 +8,7 @@ pub use Rattle.nmgc_lists.specs.laws.{Items.at_some, Items.contains_cases, Items
 pub use Rattle.nmgc_object.specs.{Words.IsName, Words.block_size, Words.name_word, Words.nursery_place, declared.layout.Layout.Layout, declared.layout.TheConstants.SHARED_PLACE, laws.Classes.least_block as large, Words.reserve_count}
 pub use Rattle.nmgc_run_laws.specs.{Course.CyclesBeginInCourse, Course.IsInCourse, Course.IsLastBegun, Course.IsStateInCourse, Course.PromotionsStayInCourse, Course.RoundsStayInCourse, Course.RunsAreInCourse, Course.WaitsWhole, Headers.RowsKeepHeaders, Limits.IsWithinLimits, Limits.RoundsAreWithin, Limits.ScriptsHaveGoodPlans, Limits.StatesAreWithin, Places.BlocksAfterRound, Places.BlocksAtStop, Sound.AreSoundBlocks, Sound.IsAfterClosing, Sound.IsInCycle, Sound.IsOfSnapshot, Sound.IsRunnable, Sound.IsSoundState, Sound.LieKnown, Sound.RoundsAreSound, Sound.StatesAreSound, Sound.TrackedHaveBlocks, Sound.WaitKnown, Sound.left_of, Statements.ClosingsAreSoon, Statements.EachCycleHasItsRow, Statements.IsClosedSoon, Statements.LastIsOfTurn, Statements.LawfulAreOfRuns, Statements.LeftIsDetermined, Statements.RunGoesOn, Statements.AddsOneTurn, Statements.answered_count, Statements.last_free_count, Longer.MayGoOn, Longer.RowsAreOfLonger, Longer.RunsAreOfLonger, Longer.longer, Longer.longer_plan, Longer.longer_state, Longer.longer_turn, Statements.SerialsAreFew}
 pub use Rattle.nmgc_run_spec.specs.{Run.Closes, Run.ClosesNow, Run.ClosesOrWaits, Run.IsForcedSoon, Run.IsSoon, Run.IsRound, Run.answered, Run.noted, Run.AreTurns, Run.IsRun, Run.IsTurn, Run.Run, Run.Stop, Run.AreRowsOf, Run.Turn, Run.last_state, Run.state_after, Run.ends_slice, Run.has_left, Run.rest_of, Run.slice, Run.slice_of, Run.slices, Run.Plan, Run.Progress, Run.State, Run.cycle_started, Run.free_count, Run.idle, Run.is_idle, Run.layout_of, Run.marking, Run.next_cycle, Run.plan_of, Run.start, Run.sweeping, Run.BeginsOrWaits, Run.DoesFullCycle, Run.EndsOrWaits, Run.Finishes, Run.IsCensus, Run.IsFullDue, Run.IsStop, Run.Proceeds, Run.Promotes, Run.answer_of, Run.is_short, Lawful.IsCrowded, Lawful.IsHeapFull, Lawful.IsRunOf, Lawful.LeavesHeapFull, Lawful.StopInRun, Lawful.last_after, Lawful.last_stop, Lawful.FitBlocks, Lawful.IsLawful, AfterRound.HoldsAfterRound, Heap.HoldsAtStop, AfterRound.IsBornPlace, Heap.snapshots, Terms.SweepsBeside, Terms.is_next, AfterRound.program_of, Terms.reserve_of, Terms.SweepsRest, Terms.is_done, Terms.with_all_retired, Run.IsHistory, Run.is_collect, Run.is_full, Terms.some_asks}
-pub use Rattle.nmgc_script.specs.{Spelling.FitsScript, declared.script.Config.Config, declared.script.Script.Script, laws.Versions.segments_few, laws.Versions.threads_few, laws.Versions.total_few, Parts.HasFewCommands}
+pub use Rattle.nmgc_script.specs.{Spelling.FitsScript, declared.script.Config.Config, declared.script.Script.Script, laws.Versions.segments_few, laws.Versions.threads_few, laws.Versions.total_few}
 pub use Rattle.nmgc_segment.specs.declared.state.State.{State as Stands}
 pub use Rattle.nmgc_world_laws.specs.{Limits.IsWithin, Reachable.CanReplay, Reachable.HoldsOnly, laws.Deaths.closed_mutators, laws.Deaths.closed_names, laws.Deaths.closed_serials, laws.Deaths.closed_world, laws.Distinct.no_more, laws.Distinct.one_count, laws.Growth.step_grows, laws.HeldSteps.absent, laws.HeldSteps.some_of, laws.Keeps.step_leaves_others, laws.LimitSteps.closing_keeps_limits, laws.LimitSteps.rows_keep_limits, laws.LiveRows.replayed_names, laws.LiveRows.world_after, laws.NewLimits.new_is_within, laws.NewWorlds.each_new, laws.NewWorlds.new_is_world, laws.NewWorlds.new_nodes, laws.Reached.from_there, laws.Reached.listed_cases as listed_or_not, laws.Reached.nothing_reachable_is_freed, laws.Reached.rows_hold, laws.Reached.wide_known, laws.Reached.world_holds, laws.Shapes.rows_keep_shapes, laws.StoredLaws.old_weaks_stay, laws.WorldSteps.step_keeps_world}
 pub use Rattle.nmgc_world_spec.specs.{World.Fits, World.words_made, World.shared_name, World.step, World.World, World.new_mutator, World.new_world, World.no_mutator, World.node_of, World.serial_of, World.state_of, Known.HasRegisters, Reach.Row, Reach.replayed, Reach.rows_of, Reach.AreDistinct, Reach.Counts, Reach.IsBefore, Reach.IsInOrder, Reach.IsReached, Reach.Lists, Reach.RefersTo, Reach.closed, Reach.field, Reach.start as begins, Reach.IsWide, Known.CanApply, Known.IsWorld, declared.command.Command.Command, declared.command.Reply.Reply, declared.mutator_state.MutatorState.MutatorState, declared.node.Node.Node, declared.value.Name.Name, laws.Orders.in_order_first, laws.Orders.in_order_rest, laws.Orders.not_before_itself}

@@ -1,4 +1,4 @@
-use Rattle.nmgc_trace_checker.proofs.Vocabulary.{DueLine, List, refl, subst, sym, ◌∙◌, ◌≢◌, Contains-get_or, Contains, take, take_all, nothing}
+use Rattle.nmgc_trace_checker.proofs.Vocabulary.{DueLine, List, subst, sym, ◌∙◌, ◌≢◌, Contains-get_or, Contains, take_all, nothing}
 use Rattle.nmgc_trace_checker.proofs.Noted.{none_more}
 use Rattle.nmgc_trace_checker.proofs.checker.text_since.Goals as goal
 

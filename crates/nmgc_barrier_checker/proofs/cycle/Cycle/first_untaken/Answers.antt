@@ -1,4 +1,4 @@
-use Rattle.nmgc_barrier_checker.proofs.{Vocabulary.◌∙◌, Vocabulary.◌≡◌, Vocabulary.true, Vocabulary.false, Vocabulary.[], Vocabulary.sym, Vocabulary.subst, Vocabulary.List, Vocabulary.inl, Vocabulary.Name, Vocabulary.IsUntakenIn, CycleLaws.untaken_if}
+use Rattle.nmgc_barrier_checker.proofs.{Vocabulary.◌∙◌, Vocabulary.◌≡◌, Vocabulary.true, Vocabulary.false, Vocabulary.sym, Vocabulary.subst, Vocabulary.List, Vocabulary.inl, Vocabulary.Name, Vocabulary.IsUntakenIn, CycleLaws.untaken_if}
 use Rattle.nmgc_barrier_checker.proofs.cycle.Cycle.first_untaken.Goals as goal
 
 pub returns-then-is_empty : goal.returns-then-is_empty

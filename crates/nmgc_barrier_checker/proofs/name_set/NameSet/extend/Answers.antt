@@ -1,4 +1,4 @@
-use Rattle.nmgc_barrier_checker.proofs.{Vocabulary.[], Vocabulary.List, Vocabulary.subst, Vocabulary.take_all, Vocabulary.Name, Vocabulary.Joins, ListedLaws.joins_none, ListedLaws.listed_more}
+use Rattle.nmgc_barrier_checker.proofs.{Vocabulary.List, Vocabulary.subst, Vocabulary.take_all, Vocabulary.Name, Vocabulary.Joins, ListedLaws.joins_none, ListedLaws.listed_more}
 use Rattle.nmgc_barrier_checker.proofs.name_set.NameSet.extend.Goals as goal
 
 pub loop-name-init : goal.loop-name-init

@@ -1,11 +1,11 @@
-use Rattle.nmgc_cycle.proofs.{Vocabulary.ℕ, Vocabulary.◌∙◌, Vocabulary.List, Vocabulary.[], Vocabulary.inl, Vocabulary.refl, Vocabulary.sym, Vocabulary.ap, Vocabulary.subst, Vocabulary.length, Vocabulary.Script, Vocabulary.HasStopped, Vocabulary.DidRound, Vocabulary.HaveTried, Vocabulary.CanContinue, Vocabulary.Continues, Vocabulary.IsInLimits, Vocabulary.MayBeAsked, Vocabulary.AreListed, rounds.ListedRounds.same_script, rounds.ListedRounds.listed_next, rounds.ListedRounds.listed_steps, rounds.ListedRounds.listed_words, rounds.ListedRounds.listed_most, rounds.ListedRounds.listed_valid, rounds.ListedRounds.lists_may, rounds.ListedRounds.lists_can, rounds.ListedRounds.lists_continue, rounds.RoundWorked.on_ok, rounds.Positions.position_within}
+use Rattle.nmgc_cycle.proofs.{Vocabulary.ℕ, Vocabulary.◌∙◌, Vocabulary.List, Vocabulary.[], Vocabulary.inl, Vocabulary.refl, Vocabulary.sym, Vocabulary.ap, Vocabulary.subst, Vocabulary.length, Vocabulary.Script, Vocabulary.HasStopped, Vocabulary.DidRound, Vocabulary.HaveTried, Vocabulary.CanContinue, Vocabulary.Continues, Vocabulary.FitsRun, Vocabulary.MayBeAsked, Vocabulary.AreListed, rounds.ListedRounds.same_script, rounds.ListedRounds.listed_next, rounds.ListedRounds.listed_steps, rounds.ListedRounds.listed_words, rounds.ListedRounds.listed_most, rounds.ListedRounds.listed_valid, rounds.ListedRounds.lists_may, rounds.ListedRounds.lists_can, rounds.ListedRounds.lists_continue, rounds.RoundWorked.on_ok, rounds.Positions.position_within}
 use Rattle.nmgc_cycle.proofs.collector.Collector.round.Goals as goal
 
 pub listed-requires : goal.listed-requires
 listed-requires g c = ap (λ (l : List ℕ). length l) c.as_slice.ensures.value ∙ c.requires.stopped.0.1.kept.positions_are
 
 pub round_programs-requires-clause-limits : goal.round_programs-requires-clause-limits
-round_programs-requires-clause-limits g c κs out = subst IsInLimits (sym c.known_before.ensures) c.requires.limits
+round_programs-requires-clause-limits g c κs out = subst FitsRun (sym c.known_before.ensures) c.requires.limits
 
 pub round_programs-requires-clause-config : goal.round_programs-requires-clause-config
 round_programs-requires-clause-config g c κs out = ap (λ (s : Script). s.config) (sym c.known_before.ensures)
@@ -48,7 +48,7 @@ returns-clause-worked g c =
     asked.gave in
     subst (λ (s : Script). DidRound s c.args.self.now c.round_programs.new.self) same (asked.did [] (λ k lt. inl refl)
     (subst (λ (s : Script). Continues listed_next s c.args.self.now.positions.items c.round_programs.new.programs asked.done) (sym same) on)
-    (subst IsInLimits (sym same) c.requires.limits)).0)
+    (subst FitsRun (sym same) c.requires.limits)).0)
 
 pub returns-clause-mutator_turns : goal.returns-clause-mutator_turns
 returns-clause-mutator_turns g c =
@@ -62,4 +62,4 @@ returns-clause-mutator_turns g c =
     asked.gave in
     subst (λ (s : Script). HaveTried s c.args.self.now c.round_programs.new.self) same (asked.did [] (λ k lt. inl refl)
     (subst (λ (s : Script). Continues listed_next s c.args.self.now.positions.items c.round_programs.new.programs asked.done) (sym same) on)
-    (subst IsInLimits (sym same) c.requires.limits)).1)
+    (subst FitsRun (sym same) c.requires.limits)).1)

@@ -1,4 +1,4 @@
-use Rattle.nmgc_cycle.proofs.{Vocabulary.ℕ, Vocabulary.◌∙◌, Vocabulary.◌+◌, Vocabulary.◌≤◌, Vocabulary.◌∷◌, Vocabulary.List, Vocabulary.[], Vocabulary.length, Vocabulary.length-append, Vocabulary.slice_index, Vocabulary.refl, Vocabulary.sym, Vocabulary.ap, Vocabulary.subst, Vocabulary.arith, Vocabulary.Script, Vocabulary.StopRow, Vocabulary.RoundRows, Vocabulary.lawful_are_of_runs, Vocabulary.stop_is_lawful, Vocabulary.HasAnswered, Vocabulary.MayBeAsked, Vocabulary.FollowEach, Vocabulary.CanContinue, Vocabulary.IsScriptSoFar, Vocabulary.all_replies, Vocabulary.cycle_most, Vocabulary.most_stops, Vocabulary.IsRunOf, Vocabulary.Report, lengths.Few.stop_fits, rounds.SoFar.may_continue, rounds.SoFar.may_follow, rounds.SoFar.threads_count, rounds.SoFar.both, rounds.SoFar.gave_both, rounds.Continuing.gave_none, rounds.RunSoFar.so_far_first, rounds.RunSoFar.so_far_next, rounds.RunSoFar.stops_bound, rounds.RunSoFar.empty_limits}
+use Rattle.nmgc_cycle.proofs.{Vocabulary.ℕ, Vocabulary.◌∙◌, Vocabulary.◌+◌, Vocabulary.◌≤◌, Vocabulary.◌∷◌, Vocabulary.List, Vocabulary.[], Vocabulary.length, Vocabulary.length-append, Vocabulary.slice_index, Vocabulary.refl, Vocabulary.sym, Vocabulary.ap, Vocabulary.subst, Vocabulary.arith, Vocabulary.Script, Vocabulary.StopRow, Vocabulary.RoundRows, Vocabulary.lawful_are_of_runs, Vocabulary.stop_is_lawful, Vocabulary.HasAnswered, Vocabulary.MayBeAsked, Vocabulary.FollowEach, Vocabulary.CanContinue, Vocabulary.IsScriptSoFar, Vocabulary.all_replies, Vocabulary.cycle_most, Vocabulary.most_stops, Vocabulary.IsRunOf, Vocabulary.FitsRun, Vocabulary.Report, lengths.Few.stop_fits, rounds.SoFar.may_continue, rounds.SoFar.may_follow, rounds.SoFar.threads_count, rounds.SoFar.both, rounds.SoFar.gave_both, rounds.Continuing.gave_none, rounds.RunSoFar.so_far_first, rounds.RunSoFar.so_far_next, rounds.RunSoFar.stops_bound, rounds.RunSoFar.empty_limits}
 use Rattle.nmgc_cycle.proofs.collector.Collector.run_programs.Goals as goal
 
 pub of-began-requires : goal.of-began-requires
@@ -108,14 +108,15 @@ returns-in-Done-clause-run g c =
     let h : IsScriptSoFar g.P.Program.next g.P.Program.steps g.P.Program.words g.P.Program.most g.P.Program.valid c.args.config.now c.args.programs.now c.stops.collector c.stops.programs c.of-script.result.value =
     subst (λ l. IsScriptSoFar g.P.Program.next g.P.Program.steps g.P.Program.words g.P.Program.most g.P.Program.valid c.args.config.now l c.stops.collector c.stops.programs c.of-script.result.value) c.of-began.ensures
     c.of-script.ensures in
-    let lawful = stop_is_lawful c.of-script.result.value c.into_report.result h.limits.fits h.limits.few
+    let lawful = stop_is_lawful c.of-script.result.value c.into_report.result h.limits
     (c.into_report.ensures.reported c.of-script.result.value
     (subst (HasAnswered c.of-script.result.value c.stop_programs.new.self) c.in-Done.is c.in_ok-stop_programs.ensures.answered)) in
     record {
       given = h.given;
       gave = h.gave;
+      limits = subst FitsRun h.is h.limits;
       run = subst (λ (s : Script). IsRunOf s c.into_report.result) h.is
-          (lawful_are_of_runs c.of-script.result.value c.into_report.result h.limits.fits h.limits.few lawful).0;
+          (lawful_are_of_runs c.of-script.result.value c.into_report.result h.limits lawful).0;
       replies = λ k d e. ap (λ (r : Report). all_replies r.rounds k) c.into_report.ensures.parts
           ∙ ap (λ (r : List RoundRows). all_replies r k) c.in_ok-stop_programs.ensures.rounds ∙ h.replies k d e;
     }
@@ -125,14 +126,15 @@ returns-in-HeapFull-clause-run g c =
     let h : IsScriptSoFar g.P.Program.next g.P.Program.steps g.P.Program.words g.P.Program.most g.P.Program.valid c.args.config.now c.args.programs.now c.stops.collector c.stops.programs c.of-script.result.value =
     subst (λ l. IsScriptSoFar g.P.Program.next g.P.Program.steps g.P.Program.words g.P.Program.most g.P.Program.valid c.args.config.now l c.stops.collector c.stops.programs c.of-script.result.value) c.of-began.ensures
     c.of-script.ensures in
-    let lawful = stop_is_lawful c.of-script.result.value c.into_report-in-HeapFull.result h.limits.fits h.limits.few
+    let lawful = stop_is_lawful c.of-script.result.value c.into_report-in-HeapFull.result h.limits
     (c.into_report-in-HeapFull.ensures.reported c.of-script.result.value
     (subst (HasAnswered c.of-script.result.value c.stop_programs.new.self) c.in-HeapFull.is c.in_ok-stop_programs.ensures.answered)) in
     record {
       given = h.given;
       gave = h.gave;
+      limits = subst FitsRun h.is h.limits;
       run = subst (λ (s : Script). IsRunOf s c.into_report-in-HeapFull.result) h.is
-          (lawful_are_of_runs c.of-script.result.value c.into_report-in-HeapFull.result h.limits.fits h.limits.few lawful).0;
+          (lawful_are_of_runs c.of-script.result.value c.into_report-in-HeapFull.result h.limits lawful).0;
       replies = λ k d e. ap (λ (r : Report). all_replies r.rounds k) c.into_report-in-HeapFull.ensures.parts
           ∙ ap (λ (r : List RoundRows). all_replies r k) c.in_ok-stop_programs.ensures.rounds ∙ h.replies k d e;
     }

@@ -1,4 +1,4 @@
-use Rattle.nmgc_cycle.proofs.{Vocabulary.ℕ, Vocabulary.◌≡◌, Vocabulary.◌↔◌, Vocabulary.sym, Vocabulary.ap, Vocabulary.subst, Vocabulary.IsTrue, Vocabulary.OnOk, Vocabulary.IfOk, Vocabulary.Script, Vocabulary.SomeIsLeft, Vocabulary.IsInLimits, Vocabulary.CanStop, Vocabulary.HasAnswered, Vocabulary.StopsAfter, Vocabulary.IsDone, Vocabulary.IsHeapFullAt, Vocabulary.NothingReachableIsFreed}
+use Rattle.nmgc_cycle.proofs.{Vocabulary.ℕ, Vocabulary.◌≡◌, Vocabulary.◌↔◌, Vocabulary.sym, Vocabulary.ap, Vocabulary.subst, Vocabulary.IsTrue, Vocabulary.OnOk, Vocabulary.IfOk, Vocabulary.Script, Vocabulary.SomeIsLeft, Vocabulary.FitsRun, Vocabulary.CanStop, Vocabulary.HasAnswered, Vocabulary.StopsAfter, Vocabulary.IsDone, Vocabulary.IsHeapFullAt, Vocabulary.NothingReachableIsFreed}
 use Rattle.nmgc_cycle.specs.declared.stop.StopEnd.TheVariants as answer
 use Rattle.nmgc_cycle.proofs.stops.AfterPromotion as after
 use Rattle.nmgc_cycle.proofs.collector.Collector.stop.Goals as goal
@@ -7,7 +7,7 @@ pub has_commands_left-left-requires : goal.has_commands_left-left-requires
 has_commands_left-left-requires g c = (after.kept_of c.args.script.now c.args.self.now c.requires.can).positions_are
 
 pub do_stop-requires-clause-limits : goal.do_stop-requires-clause-limits
-do_stop-requires-clause-limits g c κs out = subst IsInLimits (sym c.known_before.ensures) c.requires.limits
+do_stop-requires-clause-limits g c κs out = subst FitsRun (sym c.known_before.ensures) c.requires.limits
 
 pub do_stop-requires-clause-trigger : goal.do_stop-requires-clause-trigger
 do_stop-requires-clause-trigger g c κs out = ap (λ (s : Script). s.config.trigger) (sym c.known_before.ensures)
