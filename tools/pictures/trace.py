@@ -134,9 +134,10 @@ class Watch:
                 kept = [(name, name, None), (then[2], name, 1), (then[3], name, 2)]
         stored = [it for it in _stored(self.world.lines.get(effect.name), effect) if self.may_be_due(it[0])] if mutator in self.unscanned else []
         self.opened += [target for target, _, _ in stored]
-        for at, (target, source, field) in enumerate(lost + opens + kept + stored):
+        came = lost + opens + kept + stored
+        self.dues += len({target for target, _, _ in came if self.may_be_due(target)})
+        for at, (target, source, field) in enumerate(came):
             if self.may_be_due(target):
-                self.dues += 1
                 is_stored = at >= len(lost + opens + kept)
                 self.debts.append(Debt(target, number, mutator, command, source, field, self.text, is_stored))
 
@@ -151,9 +152,11 @@ class Watch:
         return [(target, name, field) for field, target in sorted(then.items()) if now.get(field) == target and after.get(field) != target]
 
     def unpaid(self, mutator=None):
-        """The first debt that nobody remembered. Those that are paid leave the list."""
+        """The earliest debt that nobody remembered: of the least line and, of that line, of the first name. Those that are paid
+        leave the list."""
         self.debts = [it for it in self.debts if it.name not in self.pushed]
-        return next((it for it in self.debts if mutator in (None, it.mutator)), None)
+        left = [it for it in self.debts if mutator in (None, it.mutator)]
+        return min(left, key=lambda it: (it.line, order(it.name)), default=None)
 
     def pay(self, mutator=None):
         """Refuses a line where something is due."""
@@ -222,7 +225,8 @@ class Watch:
         self.pay()
         flying = [name for name in self.pushed if name in self.snapshot.lines and name != "g" and name not in self.told_taken]
         if self.told_taken and flying:
-            raise Refused("untaken", f"can't happen: nobody took {flying[0]}", flying[0])
+            first = min(flying, key=order)
+            raise Refused("untaken", f"can't happen: nobody took {first}", first)
         live, dead = self.outcome(self.opened + sorted(self.pushed))
         dead = dead if told is None else set(told)
         needed, sure = self.outcome(self.opened + self.keys_left(dead))
