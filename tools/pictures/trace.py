@@ -81,6 +81,12 @@ class Watch:
     def command(self, number, word, rest):
         """`M COMMAND = ANSWER`."""
         rows = rows_of(rest) if is_number(word, 256) else None
+        hand = hand_of(rest) if is_number(word, 256) else None
+        if hand is not None:
+            self.in_phase("between", "marking", "ended")
+            self.hand(number, int(word), *hand)
+            self.commands += 1
+            return
         if rows is not None:
             self.in_phase("between", "marking", "ended")
             self.has_mutator(int(word))
@@ -116,6 +122,19 @@ class Watch:
         if self.phase == "marking":
             self.due(number, mutator, words, effect)
         self.world.apply(mutator, effect)
+
+    def hand(self, number, mutator, value, taker, register, answer):
+        """A mutator's value goes into a register of another, past all objects."""
+        if not self.world.can_apply(mutator) or taker >= len(self.world.serials):
+            raise Refused("words", "can't happen: there is no such mutator or register")
+        if answer != "ok":
+            raise Refused("answer", "can't happen: the heap answers ok", None, None, "ok")
+        target = self.world.value(mutator, value)
+        if self.phase == "marking" and mutator in self.unscanned and taker not in self.unscanned and self.may_be_due(target):
+            self.opened.append(target)
+            self.dues += 1
+            self.debts.append(Debt(target, number, mutator, f"hand {value} {taker} {register}", None, None, self.text, True))
+        self.world.registers[taker][int(register[1:])] = target
 
     def due(self, number, mutator, words, effect):
         """Notes what a command makes due, opens and finalises, before it is done."""
@@ -192,6 +211,16 @@ class Watch:
         self.unscanned.discard(int(rest))
         self.opened += [value for value in self.world.registers[int(rest)] if value in self.snapshot.lines]
 
+    def _ended(self, number, rest, more):
+        if not is_number(rest, 256):
+            raise unknown()
+        self.in_phase("between", "marking", "ended")
+        self.has_mutator(int(rest))
+        if not self.world.can_apply(int(rest)):
+            raise Refused("words", "can't happen: there is no such mutator or register")
+        self.world.registers[int(rest)] = ["nil"] * len(self.world.registers[int(rest)])
+        self.unscanned.discard(int(rest))
+
     def _push(self, number, rest, more):
         who, _, name = rest.partition(" ")
         if not (who == "-" or is_number(who, 256)) or not is_told_name(name):
@@ -252,9 +281,21 @@ class Watch:
         parts = {name: words.split(" ") for name, words in self.snapshot.lines.items() if words.startswith("weak ")}
         return [it[1] for name, it in parts.items() if len(it) == 4 and name not in dead and name not in self.finalised]
 
+    def _black(self, number, rest, more):
+        names = _names(rest)
+        self.in_phase("ended")
+        unknown_name = next((name for name in names if name not in self.world.lines), None)
+        if unknown_name:
+            raise Refused("name", f"can't happen: the heap has no {unknown_name}", unknown_name)
+        self.compare([name for name in names if name in self.snapshot.lines])
+
     def _marked(self, number, rest, more):
         names = _names(rest)
         self.in_phase("ended")
+        self.compare(names)
+
+    def compare(self, names):
+        """Refuses names that aren't exactly those that the cycle kept."""
         told = set(names)
         missing = min(self.kept - told, key=order, default=None)
         if missing:
@@ -323,6 +364,17 @@ def rows_of(rest):
             return None
         return [["set", to, str(int(first) + at), value] for at in range(int(count))]
     return None
+
+
+def hand_of(rest):
+    """The value, the mutator, the register and the answer of a value that is handed over, if the line tells one."""
+    command, equals, answer = rest.partition(" = ")
+    words = command.split(" ")
+    if not equals or len(words) != 4 or words[0] != "hand" or not is_answer(answer):
+        return None
+    if not (_are_operands(words[1]) and is_number(words[2], 256) and REGISTER.fullmatch(words[3])):
+        return None
+    return words[1], int(words[2]), words[3], answer
 
 
 def _are_operands(*words):

@@ -1,11 +1,12 @@
 -- Every event can happen or has a reason.
-use Rattle.nmgc_barrier_checker.proofs.Vocabulary.{IsBefore, before_trans, not_before_itself, ◌≡◌, ◌≢◌, ◌<◌, ℕ, List, [], ◌∷◌, ◌++◌, length, map, refl, sym, ap, subst, ◌∙◌, arith, Bool, true, false, not, cond, inl, inr, ◌⊎◌, eqb, Contains, IsSome, is_some, filter, ◌&&◌, ◌↔◌, cases_Bool, cases_lt, false≢true, and_cases, and_parts, and_from, not-false, eqb-true, eq-eqb, Contains-append_left, Contains-append_right, Contains-append_cases, Name, MutatorState, Command, Reply, is_same_name, World, node_of, IsWorld, step, shared_name, Parts, IsAlive, IsDead, IsKept, Lists, closed, contains_head, contains_cases, nothing_in, one_is, contains_one, step_keeps_world, is_listed, tested_same, is_same_name-refl, contains_listed, not_listed, listed_from, Debt, Cycle, IsPushed, IsAllTaken, IsDeadAmong, Event, Why, CycleResult, Watch, IsUntakenName, IsTaken, keys_then, IsOpenedWith, is_done, CanAct, WhyNoAct, AreDone, StopsAt, mutators_of, IsAbsent, IsAgainst, IsLeft, IsResultWith, is_old, MayFree, WhyKept, Can, IsWhy, AreClosed, EveryEventIsJudged, alive_there, Hybrid, AreScanned, IsWatchedIn, IsScanned, beginning, held_names, is_scanned, scanned_at_once, zero, suc, cases_eq, slice_set, IsTook}
+use Rattle.nmgc_barrier_checker.proofs.Vocabulary.{IsBefore, before_trans, not_before_itself, ◌≡◌, ◌≢◌, ◌<◌, ℕ, List, [], ◌∷◌, ◌++◌, length, map, refl, sym, ap, subst, ◌∙◌, arith, Bool, true, false, not, cond, inl, inr, ◌⊎◌, eqb, Contains, IsSome, is_some, filter, ◌&&◌, ◌↔◌, cases_Bool, cases_lt, false≢true, and_cases, and_parts, and_from, not-false, eqb-true, eq-eqb, Contains-append_left, Contains-append_right, Contains-append_cases, Name, MutatorState, Command, Reply, is_same_name, World, node_of, IsWorld, step, shared_name, Parts, IsAlive, IsDead, IsKept, Lists, closed, contains_head, contains_cases, nothing_in, one_is, contains_one, step_keeps_world, is_listed, tested_same, is_same_name-refl, contains_listed, not_listed, listed_from, Debt, Cycle, IsPushed, IsAllTaken, IsDeadAmong, Event, Why, CycleResult, Watch, IsUntakenName, IsTaken, keys_then, IsOpenedWith, is_done, CanAct, WhyNoAct, AreDone, StopsAt, mutators_of, IsAbsent, IsAgainst, IsLeft, IsResultWith, is_old, MayFree, WhyKept, Can, IsWhy, AreClosed, EveryEventIsJudged, alive_there, Hybrid, AreScanned, IsWatchedIn, IsScanned, beginning, held_names, is_scanned, scanned_at_once, zero, suc, cases_eq, slice_set, IsTook, REGISTERS, CountsAsScanned, emptied, handed_over, Hand}
+use Rattle.nmgc_world_spec.specs.declared.command.Reply.TheVariants as reply
 use Rattle.nmgc_barrier_checker.specs.declared.event.Event.TheVariants as event
 use Rattle.nmgc_barrier_checker.specs.declared.event.Why.TheVariants as why
 use Rattle.nmgc_barrier_checker.specs.declared.watch.Watch.TheVariants as watch
-use Rattle.nmgc_barrier_checker.specs.{First.IsEarlier, First.IsEarliest, First.IsFirstName, First.StandsFirst, Watching.IsFirstUnscanned, Watching.IsNotDead}
+use Rattle.nmgc_barrier_checker.specs.{First.IsEarlier, First.IsEarliest, First.IsFirstName, First.StandsFirst, Watching.IsFirstUnscanned, Watching.IsNotDead, Watching.IsOld, Watching.IsUnkept}
 use Rattle.nmgc_barrier_checker.proofs.{Firsts.before_cases, Firsts.earlier_cases, Firsts.earlier_trans, Firsts.first_in, Firsts.least, Firsts.not_earlier_itself, Firsts.stands_by, Firsts.stands_head, Firsts.stands_tail, Reasons.no_freed_name}
-use Rattle.nmgc_barrier_checker.proofs.{Filters.kept_in, Filters.in_kept, ClosingLaws.keys_are, ClosingLaws.dead_named, ClosingLaws.needs_listed, CycleLaws.not_both, CycleLaws.not_so, Deciding.Decided, Deciding.all_names, Deciding.listed, Living.dead_decided, Living.dead_listed, Living.kept_listed, Watched.can_cases, Watched.reply_cases, Watched.after, Watched.watched}
+use Rattle.nmgc_barrier_checker.proofs.{Exits.rows_place, Hands.hand_cases, Hands.hands, Hands.after as hands_after, Filters.kept_in, Filters.in_kept, ClosingLaws.keys_are, ClosingLaws.dead_named, ClosingLaws.needs_listed, CycleLaws.not_both, CycleLaws.not_so, Deciding.Decided, Deciding.all_names, Deciding.listed, Living.dead_decided, Living.dead_listed, Living.kept_listed, Watched.can_cases, Watched.reply_cases, Watched.after, Watched.watched}
 
 -- an event at a line, at some state of the watch
 abbrev Judged : ℕ → Watch → Event → Type 0
@@ -112,6 +113,45 @@ rows line m commands (watch.Marking h) is = some_rows line m commands (watch.Mar
 rows line m commands (watch.Ended left) is = some_rows line m commands (watch.Ended left) is
 rows line m commands watch.Stopped is = inr (why.Misplaced, (line, watch.Stopped, (refl, refl)))
 
+-- a value that goes from mutator to mutator
+hand : (line : ℕ) (k : Hand) (answer : Reply) (p : Watch) → Judged line p (event.Hand k answer)
+hand line k answer (watch.Between w) = elim (hand_cases w k) [
+  | inl can ↦ elim (reply_cases answer reply.Fine) [
+    | inl e ↦ inl (
+      watch.Between (handed_over w k.giver k.value k.taker k.dest),
+      (handed_over w k.giver k.value k.taker k.dest, (can, e, refl), refl),
+    )
+    | inr ne ↦ inr (why.Answer reply.Fine, inr (can, refl, ne))
+  ]
+  | inr never ↦ inr (why.CannotApply, inl (refl, never))
+]
+hand line k answer (watch.Marking h) = elim (hand_cases h.watch.world k) [
+  | inl can ↦ elim (reply_cases answer reply.Fine) [
+    | inl e ↦ inl (
+      watch.Marking (hands_after h line k.giver k.value k.taker k.dest can),
+      (
+        hands_after h line k.giver k.value k.taker k.dest can,
+        hands h line k.giver k.value k.taker k.dest can,
+        e,
+        refl,
+      ),
+    )
+    | inr ne ↦ inr (why.Answer reply.Fine, inr (can, refl, ne))
+  ]
+  | inr never ↦ inr (why.CannotApply, inl (refl, never))
+]
+hand line k answer (watch.Ended left) = elim (hand_cases left.world k) [
+  | inl can ↦ elim (reply_cases answer reply.Fine) [
+    | inl e ↦ inl (
+      watch.Ended (record left { world = handed_over left.world k.giver k.value k.taker k.dest }),
+      (handed_over left.world k.giver k.value k.taker k.dest, (can, e, refl), refl),
+    )
+    | inr ne ↦ inr (why.Answer reply.Fine, inr (can, refl, ne))
+  ]
+  | inr never ↦ inr (why.CannotApply, inl (refl, never))
+]
+hand line k answer watch.Stopped = inr (why.Misplaced, refl)
+
 -- marking begins
 mark : (line : ℕ) (p : Watch) → Judged line p event.Mark
 mark line (watch.Between w) = inl (watch.Marking (scanned_at_once w), refl)
@@ -164,6 +204,24 @@ scan line m (watch.Marking h) = elim (cases_lt m (length h.watch.world.mutators)
 ]
 scan line m (watch.Ended left) = inr (why.Misplaced, refl)
 scan line m watch.Stopped = inr (why.Misplaced, refl)
+
+-- the end of a mutator
+counts : (m : ℕ) (p : Watch) → m < mutators_of p → (next : Watch) × CountsAsScanned m p next
+counts m (watch.Between w) lt = (watch.Between w, inr (refl, tt))
+counts m (watch.Marking h) lt = elim (cases_Bool (is_scanned h m)) [
+  | inl t ↦ (watch.Marking h, inr (refl, t))
+  | inr f ↦ (watch.Marking (scanned_next h m), inl (scanned_next h m, scanned h m lt f, refl))
+]
+counts m (watch.Ended left) lt = (watch.Ended left, inr (refl, tt))
+counts m watch.Stopped lt = (watch.Stopped, inr (refl, tt))
+
+exit : (line m : ℕ) (p : Watch) → AreClosed p → Judged line p (event.Exit m)
+exit line m p is = elim (rows line m (emptied REGISTERS) p is) [
+  | inl r ↦
+      let s : (next : Watch) × CountsAsScanned m r.0 next = counts m r.0 (rows_place line m (emptied REGISTERS) p r.0 r.1) in
+      inl (s.0, (r.0, r.1, s.1))
+  | inr w ↦ inr (w.0, w.1)
+]
 
 -- a push
 module _ (h : Cycle) (name : Name) where
@@ -492,6 +550,49 @@ marked line names (watch.Ended left) = elim (missing names left.kept) [
 ]
 marked line names watch.Stopped = inr (why.Misplaced, refl)
 
+all_there : (left : CycleResult) (names : List Name) → ((n : Name) × StandsFirst names (λ other. IsSome (node_of left.world other) → ⊥) n) ⊎
+    ((n : Name) → Contains names n → IsSome (node_of left.world n))
+all_there left names = elim (first_in (λ n. not (is_some (node_of left.world n))) names) [
+  | inl f ↦ inl (
+    f.0,
+    stands_by (λ n. not (is_some (node_of left.world n)) ≡ true) (λ n. IsSome (node_of left.world n) → ⊥) names f.0
+        (λ n t there. not_both (is_some (node_of left.world n)) there t) (λ n never. not_so (is_some (node_of left.world n)) never) f.1,
+  )
+  | inr none ↦ inr (λ n c. not-false (is_some (node_of left.world n)) (none n c))
+]
+
+unkept : (left : CycleResult) (names : List Name) → ((n : Name) × StandsFirst names (IsUnkept left) n) ⊎
+    ((n : Name) → Contains names n → IsOld left n → Contains left.kept n)
+unkept left names = elim (first_in (λ n. is_old left.old n && not (is_listed n left.kept)) names) [
+  | inl f ↦ inl (
+    f.0,
+    stands_by (λ n. (is_old left.old n && not (is_listed n left.kept)) ≡ true) (IsUnkept left) names f.0
+        (λ n t. let p = and_parts (is_old left.old n) (not (is_listed n left.kept)) t in
+        (p.0, λ c. not_both (is_listed n left.kept) (listed_from n left.kept c) p.1))
+        (λ n u. and_from (is_old left.old n) (not (is_listed n left.kept)) u.0
+        (not_so (is_listed n left.kept) (λ t. u.1 (contains_listed n left.kept t)))) f.1,
+  )
+  | inr none ↦ inr (λ n c old. elim (and_cases (is_old left.old n) (not (is_listed n left.kept)) (none n c)) [
+    | inl new ↦ absurd (false≢true (sym new ∙ old))
+    | inr listed ↦ contains_listed n left.kept (not-false (is_listed n left.kept) listed)
+  ])
+]
+
+black : (line : ℕ) (names : List Name) (p : Watch) → Judged line p (event.Black names)
+black line names (watch.Between w) = inr (why.Misplaced, refl)
+black line names (watch.Marking h) = inr (why.Misplaced, refl)
+black line names (watch.Ended left) = elim (all_there left names) [
+  | inl f ↦ inr (why.NoSuchName f.0, inl (f.0, refl, f.1))
+  | inr there ↦ elim (missing names left.kept) [
+    | inl f ↦ inr (why.NotListed f.0, inr (there, inl (f.0, refl, f.1)))
+    | inr kept ↦ elim (unkept left names) [
+      | inl f ↦ inr (why.NotMarked f.0, inr (there, inr (kept, (f.0, refl, f.1))))
+      | inr old ↦ inl (watch.Ended left, (record { there = there; kept = kept; old = old }, refl))
+    ]
+  ]
+]
+black line names watch.Stopped = inr (why.Misplaced, refl)
+
 may_free : (left : CycleResult) (n : Name) → MayFree left n ⊎ ((y : Why) × WhyKept left n y)
 may_free left n = elim (cases_Bool (is_some (node_of left.world n))) [
   | inl there ↦ elim (cases_Bool (is_old left.old n)) [
@@ -533,14 +634,17 @@ stop line watch.Stopped = inr (why.Misplaced, refl)
 pub every_event_is_judged : EveryEventIsJudged
 every_event_is_judged line p (event.Given m c answer) is = given line m c answer p is
 every_event_is_judged line p (event.Rows m commands) is = rows line m commands p is
+every_event_is_judged line p (event.Hand k answer) is = hand line k answer p
 every_event_is_judged line p event.Mark is = mark line p
 every_event_is_judged line p event.MarkShared is = mark_shared line p
 every_event_is_judged line p (event.Scan m) is = scan line m p
 every_event_is_judged line p (event.Push name) is = push line name p
+every_event_is_judged line p (event.Exit m) is = exit line m p is
 every_event_is_judged line p (event.Settle m) is = settle line m p
 every_event_is_judged line p (event.Take name) is = take line name p
 every_event_is_judged line p event.Close is = close line p is
 every_event_is_judged line p (event.CloseWith named) is = close_with line named p is
 every_event_is_judged line p (event.Marked names) is = marked line names p
+every_event_is_judged line p (event.Black names) is = black line names p
 every_event_is_judged line p (event.Freed names) is = freed line names p
 every_event_is_judged line p event.Stop is = stop line p

@@ -1,13 +1,16 @@
 pub mod AccountLaws
+pub mod Blacks
 pub mod Broken
 pub mod ClosingLaws
 pub mod Counting
 pub mod CycleLaws
 pub mod Deciding
 pub mod DueLaws
+pub mod Exits
 pub mod Filters
 pub mod Firsts
 pub mod Handed
+pub mod Hands
 pub mod Judging
 pub mod ListedLaws
 pub mod Living

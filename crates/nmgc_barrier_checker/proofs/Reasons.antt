@@ -1,10 +1,11 @@
 -- An event with a reason can't happen.
-use Rattle.nmgc_barrier_checker.proofs.Vocabulary.{◌≡◌, ℕ, List, [], sym, subst, ◌∙◌, inl, inr, Contains, Name, Command, Reply, World, CanApply, step, Lists, nothing_in, Debt, Cycle, MarksName, IsAllTaken, IsDeadAmong, barrier_theorem, Why, CycleResult, Watch, IsWhyNot, WhyGive, CanGive, WhyMark, CanMark, WhyPush, CanPush, WhySettle, CanSettle, WhyTake, CanTake, WhyClose, CanClose, WhyCloseWith, CanCloseWith, WhyMarked, CanMarked, WhyFreed, CanFreed, WhyKept, MayFree, IsAgainst, WhyStop, CanStop, ReasonsRefuse, ClosedIsExact, WhyScan, CanScan, CanMarkShared, IsNotScanned, Hybrid, AreScanned, IsScanned, true, false}
+use Rattle.nmgc_barrier_checker.proofs.Vocabulary.{◌≡◌, ℕ, List, [], sym, subst, ◌∙◌, inl, inr, Contains, Name, Command, Reply, World, CanApply, step, Lists, nothing_in, Debt, Cycle, MarksName, IsAllTaken, IsDeadAmong, barrier_theorem, Why, CycleResult, Watch, IsWhyNot, WhyGive, CanGive, WhyMark, CanMark, WhyPush, CanPush, WhySettle, CanSettle, WhyTake, CanTake, WhyClose, CanClose, WhyCloseWith, CanCloseWith, WhyMarked, CanMarked, WhyFreed, CanFreed, WhyBlack, CanBlack, REGISTERS, emptied, WhyNotGivenOver, CanGiveOver, Hands, IsWhyNoHand, Hand, IsSome, node_of, WhyKept, MayFree, IsAgainst, WhyStop, CanStop, ReasonsRefuse, ClosedIsExact, WhyScan, CanScan, CanMarkShared, IsNotScanned, Hybrid, AreScanned, IsScanned, true, false}
+use Rattle.nmgc_world_spec.specs.declared.command.Reply.TheVariants as reply
 use Rattle.nmgc_barrier_checker.specs.declared.event.Event.TheVariants as event
 use Rattle.nmgc_barrier_checker.specs.declared.event.Why.TheVariants as why
 use Rattle.nmgc_barrier_checker.specs.declared.watch.Watch.TheVariants as watch
 use Rattle.nmgc_barrier_laws.specs.laws.HybridBeside.{hybrid_joint}
-use Rattle.nmgc_barrier_checker.specs.Watching.{IsAgainstWith, IsUnscanned, ClosedLaterIsExact}
+use Rattle.nmgc_barrier_checker.specs.Watching.{IsAgainstWith, IsUnkept, IsUnscanned, ClosedLaterIsExact}
 use Rattle.nmgc_barrier_checker.proofs.{Firsts.stands_in, RowLaws.no_rows}
 
 no_command : (w : World) (m : ℕ) (c : Command) (answer : Reply) (y : Why) → IsWhyNot w m c answer y → CanApply w m c → (step w m c).1 ≡ answer → ⊥
@@ -27,6 +28,17 @@ no_give line m c answer (watch.Between w) y next h g = no_command w m c answer y
 no_give line m c answer (watch.Marking k) y next h g = no_command k.watch.world m c answer y h g.1.can g.1.says
 no_give line m c answer (watch.Ended left) y next h g = no_command left.world m c answer y h g.1.0 g.1.1
 no_give line m c answer watch.Stopped y next h g = g
+
+no_hand : (w : World) (k : Hand) (answer : Reply) (y : Why) → IsWhyNoHand w k answer y → Hands w k → answer ≡ reply.Fine → ⊥
+no_hand w k answer y (inl h) can fine = h.1 can
+no_hand w k answer y (inr h) can fine = h.2 fine
+
+no_give_over : (line : ℕ) (k : Hand) (answer : Reply) (p : Watch) (y : Why) (next : Watch) → WhyNotGivenOver k answer p y →
+    CanGiveOver line k answer p next → ⊥
+no_give_over line k answer (watch.Between w) y next h g = no_hand w k answer y h g.1.0 g.1.1
+no_give_over line k answer (watch.Marking c) y next h g = no_hand c.watch.world k answer y h g.1.can g.2
+no_give_over line k answer (watch.Ended left) y next h g = no_hand left.world k answer y h g.1.0 g.1.1
+no_give_over line k answer watch.Stopped y next h g = g
 
 no_mark : (p : Watch) (y : Why) (next : Watch) → WhyMark p y → CanMark p next → ⊥
 no_mark (watch.Between w) y next h g = h
@@ -106,6 +118,17 @@ no_marked names (watch.Ended left) y next (inr h) g =
     h.1.2.3 ((g.0 h.1.0).0 (stands_in (λ other. Contains left.kept other → ⊥) names h.1.0 h.1.2))
 no_marked names watch.Stopped y next h g = g
 
+no_black : (names : List Name) (p : Watch) (y : Why) (next : Watch) → WhyBlack names p y → CanBlack names p next → ⊥
+no_black names (watch.Between w) y next h g = g
+no_black names (watch.Marking k) y next h g = g
+no_black names (watch.Ended left) y next (inl h) g =
+    h.2.3 (g.0.there h.0 (stands_in (λ other. IsSome (node_of left.world other) → ⊥) names h.0 h.2))
+no_black names (watch.Ended left) y next (inr (there, inl h)) g =
+    h.2.3 (g.0.kept h.0 (stands_in (λ other. Contains names other → ⊥) left.kept h.0 h.2))
+no_black names (watch.Ended left) y next (inr (there, inr (all, h))) g =
+    h.2.3.1 (g.0.old h.0 (stands_in (IsUnkept left) names h.0 h.2) h.2.3.0)
+no_black names watch.Stopped y next h g = g
+
 pub no_freed_name : (left : CycleResult) (name : Name) (y : Why) → WhyKept left name y → MayFree left name → ⊥
 no_freed_name left name y (inl h) may = h.1 may.0
 no_freed_name left name y (inr h) may = elim h.1 [ inl old ↦ old.1 may.1 | inr need ↦ may.2 need.2 ]
@@ -125,15 +148,18 @@ no_stop watch.Stopped y next h g = g
 pub reasons_refuse : ReasonsRefuse
 reasons_refuse line p (event.Given m c answer) y next h g = no_give line m c answer p y next h g
 reasons_refuse line p (event.Rows m commands) y next h g = no_rows line m commands p next y h g
+reasons_refuse line p (event.Hand k answer) y next h g = no_give_over line k answer p y next h g
 reasons_refuse line p event.Mark y next h g = no_mark p y next h g
 reasons_refuse line p event.MarkShared y next h g = no_mark_shared p y next h g
 reasons_refuse line p (event.Scan m) y next h g = no_scan m p y next h g
 reasons_refuse line p (event.Push name) y next h g = no_push name p y next h g
+reasons_refuse line p (event.Exit m) y next h g = no_rows line m (emptied REGISTERS) p g.0 y h g.1
 reasons_refuse line p (event.Settle m) y next h g = no_settle m p y next h g
 reasons_refuse line p (event.Take name) y next h g = no_take name p y next h g
 reasons_refuse line p event.Close y next h g = no_close p y next h g
 reasons_refuse line p (event.CloseWith dead) y next h g = no_close_with dead p y next h g
 reasons_refuse line p (event.Marked names) y next h g = no_marked names p y next h g
+reasons_refuse line p (event.Black names) y next h g = no_black names p y next h g
 reasons_refuse line p (event.Freed names) y next h g = no_freed names p y next h g
 reasons_refuse line p event.Stop y next h g = no_stop p y next h g
 

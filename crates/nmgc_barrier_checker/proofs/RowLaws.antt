@@ -1,6 +1,7 @@
 -- Several commands of one line: the effect of the first of them, and the command that stops them.
-use Rattle.nmgc_barrier_checker.proofs.Vocabulary.{◌≡◌, ◌<◌, ◌+◌, ℕ, List, [], ◌∷◌, ◌++◌, suc, length, take, drop, get_or, refl, sym, ap, subst, ◌∙◌, arith, append_assoc, Option, Some, None, true, false, inl, inr, ◌⊎◌, is_some, Command, World, CanApply, step, Why, Copying, Filling, Watch, IsNotDone, is_done, load_of, store_of, write_of, copied, filled, CanAct, WhyNoAct, IsAct, AreDone, StopsAt, AreActed, is_stopped, mutators_of, CanRows, IsAbsent, IsWhy, IsStep, Hybrid}
+use Rattle.nmgc_barrier_checker.proofs.Vocabulary.{◌≡◌, ◌<◌, ◌+◌, ℕ, List, [], ◌∷◌, ◌++◌, suc, length, take, drop, get_or, refl, sym, ap, subst, ◌∙◌, arith, append_assoc, Option, Some, None, true, false, inl, inr, ◌⊎◌, is_some, Command, World, CanApply, step, Why, Copying, Filling, Watch, IsNotDone, is_done, load_of, store_of, write_of, copied, filled, CanAct, WhyNoAct, IsAct, AreDone, StopsAt, AreActed, is_stopped, mutators_of, CanRows, IsAbsent, IsWhy, IsStep, Hybrid, Nil}
 use Rattle.std.proofs.Common.{Result, Ok, Err}
+use Rattle.nmgc_barrier_checker.specs.Rows.{emptied}
 use Rattle.nmgc_barrier_checker.proofs.Firsts.{split_at}
 use Rattle.std.specs.Prelude.{IfOk}
 use Rattle.nmgc_lists.specs.declared.memory.NoMemory.{NoMemory}
@@ -25,6 +26,13 @@ pub filled_more : (filling : Filling) (turn : ℕ) (a b : List Command) (x : Com
 filled_more filling turn a b x e f g =
     let on : turn + 1 ≡ suc turn = omega arith in
     f ∙ (ap (λ (l : List Command). l ++ x ∷ []) e ∙ (ap (λ (z : Command). filled filling turn ++ z ∷ []) g ∙ sym (ap (filled filling) on)))
+
+pub emptied_more : (register : ℕ) (a b : List Command) (x : Command) → a ≡ emptied register → b ≡ a ++ x ∷ [] →
+    x ≡ Nil register → b ≡ emptied (register + 1)
+unfolding emptied
+emptied_more register a b x e f g =
+    let on : register + 1 ≡ suc register = omega arith in
+    f ∙ (ap (λ (l : List Command). l ++ x ∷ []) e ∙ (ap (λ (z : Command). emptied register ++ z ∷ []) g ∙ sym (ap emptied on)))
 
 -- one more command was done
 pub done_more : (line m : ℕ) (xs : List Command) (c : Command) (p between next : Watch) → AreDone line m xs p between →

@@ -1,8 +1,9 @@
 -- How often a name comes due, by the heap and the commands alone: pushes play no part.
 use Rattle.std.specs.Prelude.{◌≡◌, ◌+◌, ◌-◌, ◌^◌, min, ℕ, List, [], ◌∷◌, Option, Some, None}
 use Rattle.nmgc_world_spec.specs.{declared.value.Name.Name, declared.command.Command.Command, Reach.Counts}
-use Rattle.nmgc_barrier_laws.specs.Hybrid.{IsDueIn}
-use Rattle.nmgc_barrier_checker.specs.{declared.event.Event.Event, declared.event.Why.Why, declared.watch.Watch.Watch, Watching.CanAct}
+use Rattle.nmgc_limits.specs.declared.mutators.TheConstants.{REGISTERS}
+use Rattle.nmgc_barrier_laws.specs.Hybrid.{IsDueIn, IsHandedBy}
+use Rattle.nmgc_barrier_checker.specs.{declared.event.Event.Event, declared.event.Why.Why, declared.hand.Hand.Hand, declared.watch.Watch.Watch, Rows.emptied, Watching.CanAct}
 use Rattle.nmgc_barrier_checker.specs.declared.event.Event.TheVariants as event
 use Rattle.nmgc_barrier_checker.specs.declared.watch.Watch.TheVariants as watch
 
@@ -21,10 +22,17 @@ AreCounted line m [] p before next after = (next ≡ p) × (after ≡ before)
 AreCounted line m (c ∷ cs) p before next after = (between : Watch) × (count : ℕ) × CanAct line m c p between × AddsDues p m c before count ×
     AreCounted line m cs between count next after
 
--- the count after a line's event that can happen: only commands make names due
+-- the count after a value was handed over: in a cycle, the name that it makes due counts, if there is one
+abbrev pub AddsHand : Watch → Hand → ℕ → ℕ → Type 0
+AddsHand (watch.Marking h) k before after = IsAdded (IsHandedBy h k.giver k.value k.taker) before after
+AddsHand p k before after = after ≡ before
+
+-- the count after a line's event that can happen: only commands and values handed over make names due
 abbrev pub CountsDues : ℕ → Watch → Event → ℕ → ℕ → Type 0
 CountsDues line p (event.Given m c answer) before after = AddsDues p m c before after
 CountsDues line p (event.Rows m commands) before after = (next : Watch) × AreCounted line m commands p before next after
+CountsDues line p (event.Exit m) before after = (next : Watch) × AreCounted line m (emptied REGISTERS) p before next after
+CountsDues line p (event.Hand k answer) before after = AddsHand p k before after
 CountsDues line p e before after = after ≡ before
 
 -- for private contracts: as above if the command or event was done, and any count if it was refused

@@ -1,9 +1,11 @@
 -- The invariant of a cycle, and the results of its calls.
-use Rattle.std.specs.Prelude.{◌≡◌, ◌≢◌, ℕ, List, [], ◌∷◌, ◌++◌, length, flat_map, Option, Some, None, Bool, true, false, not, ◌&&◌, IsSome, Contains, ◌<◌, ◌⊎◌, ◌↔◌}
+use Rattle.std.specs.Prelude.{◌≡◌, ◌≢◌, ℕ, List, [], ◌∷◌, ◌++◌, length, flat_map, Option, Some, None, Bool, true, false, not, ◌&&◌, IsSome, Contains, ◌<◌, ◌⊎◌, ◌↔◌, filter}
 use Rattle.nmgc_world_spec.specs.{declared.value.Name.Name, declared.node.Parts.Parts, declared.command.Command.Command, declared.command.Reply.Reply, World.World, World.node_of, World.is_same_name, World.step, World.shared_name, Known.IsWorld, Known.CanApply, Reach.IsAlive, Reach.names_among}
 use Rattle.nmgc_graph.specs.{Marks.mark_of, Search.parts_of}
-use Rattle.nmgc_barrier_laws.specs.{declared.debt.Debt.Debt, Cycle.Cycle, Cycle.IsPushed, Cycle.IsTook, Cycle.IsAllTaken, Cycle.AreKeysLeft, Hybrid.Hybrid, Hybrid.is_scanned, Hybrid.IsWatchedIn, Hybrid.IsScanned, Hybrid.held_names}
-use Rattle.nmgc_barrier_checker.specs.{declared.accounts.Accounts.Accounts, declared.name_set.NameSet.NameSet, declared.event.Why.Why, Accounts.AreAccounts, Accounts.IsLeastIn, First.IsEarliest, First.IsFirstName, NameSet.IsListed, Rows.is_done}
+use Rattle.nmgc_barrier_laws.specs.{declared.debt.Debt.Debt, Cycle.Cycle, Cycle.OwesBy, Cycle.IsPushed, Cycle.IsTook, Cycle.IsAllTaken, Cycle.AreKeysLeft, Hybrid.Hybrid, Hybrid.is_scanned, Hybrid.IsWatchedIn, Hybrid.CanHand, Hybrid.IsHandedOver, Hybrid.IsScanned, Hybrid.held_names}
+use Rattle.nmgc_world_spec.specs.declared.command.Reply.TheVariants as reply
+use Rattle.nmgc_snapshot_laws.specs.Machine.{is_pushed_in}
+use Rattle.nmgc_barrier_checker.specs.{declared.hand.Hand.Hand, declared.accounts.Accounts.Accounts, declared.name_set.NameSet.NameSet, declared.event.Why.Why, Accounts.AreAccounts, Accounts.IsLeastIn, First.IsEarliest, First.IsFirstName, NameSet.IsListed, Rows.is_done}
 use Rattle.nmgc_barrier_checker.specs.declared.event.Why.TheVariants as why
 
 -- the invariant of a cycle. Pushed, opened and taken names are lists with sets (`IsListed`), and the debts are in accounts. A
@@ -62,6 +64,32 @@ IsNotDone w m c y = ⊥
 abbrev pub IsActing : ℕ → ℕ → Command → Hybrid → Option Why → Hybrid → Type 0
 IsActing line m c h None next = IsTaken line m c h next × (is_done (step h.watch.world m c).1 ≡ true)
 IsActing line m c h (Some w) next = (next ≡ h) × IsNotDone h.watch.world m c w
+
+-- names that a mutator made due at a line, by no command. Names of the snapshot count as opened
+pub record IsMadeDue (line m : ℕ) (names : List Name) (h next : Cycle) : Type 0 where
+  pub rest : next ≡ record h { debts = next.debts; opened = next.opened }
+  pub opened : (name : Name) → Contains next.opened name ↔ (Contains h.opened name ⊎ (Contains names name × IsSome (node_of h.snapshot name)))
+  pub old : (debt : Debt) → Contains h.debts debt → Contains next.debts debt
+  pub new : (debt : Debt) → Contains next.debts debt → Contains h.debts debt ⊎
+      ((debt.line ≡ line) × (debt.mutator ≡ m) × Contains (filter (is_pushed_in h.snapshot) names) debt.name × (Contains h.remembered debt.name → ⊥))
+  pub due : (name : Name) → Contains (filter (is_pushed_in h.snapshot) names) name → Contains h.remembered name ⊎ OwesBy next m name
+
+-- a world can hand a value over
+abbrev pub Hands : World → Hand → Type 0
+Hands w k = CanHand w k.giver k.value k.taker k.dest
+
+-- the reason why a world can't have handed a value over with this answer: it can't do so at all, or it answers `ok`
+abbrev pub IsWhyNoHand : World → Hand → Reply → Why → Type 0
+IsWhyNoHand w k answer y = ((y ≡ why.CannotApply) × (Hands w k → ⊥)) ⊎ (Hands w k × (y ≡ why.Answer reply.Fine) × (answer ≢ reply.Fine))
+
+-- a value was handed over at a line
+abbrev pub IsGivenOver : ℕ → Hand → Hybrid → Hybrid → Type 0
+IsGivenOver line k h next = IsHandedOver h line k.giver k.value k.taker k.dest next
+
+-- the outcome of a value handed over with an answer: it was, or nothing changed and there is a reason
+abbrev pub IsHand : ℕ → Hand → Reply → Hybrid → Option Why → Hybrid → Type 0
+IsHand line k answer h None next = IsGivenOver line k h next × (answer ≡ reply.Fine)
+IsHand line k answer h (Some y) next = (next ≡ h) × IsWhyNoHand h.watch.world k answer y
 
 -- the names of the snapshot in the mutator's registers count as opened
 pub record IsRead (m : ℕ) (h next : Cycle) : Type 0 where

@@ -109,6 +109,12 @@ abbrev pub handed_in : Bool → World → World → Name → Option Field → Li
 handed_in true snapshot after made field = []
 handed_in false snapshot after made field = filter (is_pushed_in snapshot) (stored_in after made field)
 
+-- the names that come due if a value is handed over: none unless the first mutator isn't scanned and the second is
+abbrev pub given_names : Bool → Bool → World → Value → List Name
+given_names true taken snapshot v = []
+given_names false false snapshot v = []
+given_names false true snapshot v = filter (is_pushed_in snapshot) (names_among (v ∷ []))
+
 -- sorted names: no name is before its predecessor in the list
 abbrev pub AreSorted : List Name → Type 0
 AreSorted names = IsSortedByKey {X = Name} {K = ℕ × ℕ} (λ (name : Name). (name.maker, name.serial)) (λ a b. ordering_then (nat_cmp a.0 b.0) (nat_cmp a.1 b.1)) names

@@ -1,4 +1,4 @@
--- Several commands in one line: a copy of many fields, and a fill.
+-- Several commands in one line: a copy of many fields, a fill, and the commands that empty registers.
 use Rattle.std.specs.Prelude.{◌+◌, ◌-◌, ◌^◌, min, ℕ, zero, suc, List, [], ◌∷◌, ◌++◌, Bool, true, false, if◌then◌else◌}
 use Rattle.nmgc_world_spec.specs.declared.command.Operand.TheVariants as operand
 use Rattle.nmgc_world_spec.specs.{declared.command.Command.Command, declared.command.Reply.Reply}
@@ -41,3 +41,8 @@ copied copying (suc turn) = copied copying turn ++ load_of copying turn ∷ stor
 abbrev pub filled : Filling → ℕ → List Command
 filled filling zero = []
 filled filling (suc turn) = filled filling turn ++ write_of filling turn ∷ []
+
+-- the commands that empty the first registers of a mutator, in order
+unfoldable pub emptied : ℕ → List Command
+emptied zero = []
+emptied (suc r) = emptied r ++ command.Nil r ∷ []

@@ -1,12 +1,14 @@
 -- When an event can happen, and why it can't: by the heap and the lax rule alone.
 use Rattle.std.specs.Prelude.{◌≡◌, ◌↔◌, ◌⊎◌, ◌++◌, ℕ, List, [], ◌∷◌, length, map, slice_index_or, Option, Some, None, Result, Ok, Err, IsSome, Contains, Bool, true, false, ◌||◌, ltb, ◌<◌}
 use Rattle.nmgc_world_spec.specs.{declared.value.Name.Name, declared.command.Command.Command, declared.command.Reply.Reply, declared.mutator_state.MutatorState.MutatorState, World.World, World.node_of, World.is_same_name, World.step, World.shared_name, Known.IsWorld, Known.CanApply, Reach.Lists, Reach.IsKept}
+use Rattle.nmgc_limits.specs.declared.mutators.TheConstants.{REGISTERS}
 use Rattle.nmgc_snapshot_laws.specs.declared.event.Event.TheVariants as core
 use Rattle.nmgc_snapshot_laws.specs.{State.State, Machine.IsPossible, Closing.IsClosing}
 use Rattle.nmgc_barrier_laws.specs.{declared.debt.Debt.Debt, Barrier.Beside}
 use Rattle.nmgc_barrier_laws.specs.Cycle.{Cycle, IsPushed, IsTook, IsAllTaken, IsEnd, IsEndWith, IsDeadAmong, Needs, MarksName}
-use Rattle.nmgc_barrier_laws.specs.Hybrid.{Hybrid, scanned_at_once, beginning, is_scanned, AreScanned, IsWatchedIn, IsScanned, WatchesIn, BesideIn}
-use Rattle.nmgc_barrier_checker.specs.{declared.event.Event.Event, declared.event.Why.Why, declared.cycle_result.CycleResult.CycleResult, declared.watch.Watch.Watch, Cycles.IsWhyNot, Cycles.IsNotDone, Cycles.IsTaken, Cycles.IsNotScanned, Cycles.IsSettled, Cycles.IsUnsettled, Cycles.IsUntakenName, First.IsEarliest, First.IsFirstName, First.StandsFirst, Rows.is_done}
+use Rattle.nmgc_barrier_laws.specs.Hybrid.{Hybrid, handed_over, scanned_at_once, beginning, is_scanned, AreScanned, IsWatchedIn, IsScanned, WatchesIn, BesideIn}
+use Rattle.nmgc_barrier_checker.specs.{declared.event.Event.Event, declared.event.Why.Why, declared.hand.Hand.Hand, declared.cycle_result.CycleResult.CycleResult, declared.watch.Watch.Watch, Cycles.IsWhyNot, Cycles.Hands, Cycles.IsWhyNoHand, Cycles.IsGivenOver, Cycles.IsNotDone, Cycles.IsTaken, Cycles.IsNotScanned, Cycles.IsSettled, Cycles.IsUnsettled, Cycles.IsUntakenName, First.IsEarliest, First.IsFirstName, First.StandsFirst, Rows.is_done, Rows.emptied}
+use Rattle.nmgc_world_spec.specs.declared.command.Reply.TheVariants as reply
 use Rattle.nmgc_barrier_checker.specs.declared.event.Event.TheVariants as event
 use Rattle.nmgc_barrier_checker.specs.declared.event.Why.TheVariants as why
 use Rattle.nmgc_barrier_checker.specs.declared.watch.Watch.TheVariants as watch
@@ -33,6 +35,26 @@ WhyGive m c answer (watch.Between w) y = IsWhyNot w m c answer y
 WhyGive m c answer (watch.Marking h) y = IsWhyNot h.watch.world m c answer y
 WhyGive m c answer (watch.Ended left) y = IsWhyNot left.world m c answer y
 WhyGive m c answer watch.Stopped y = y ≡ why.Misplaced
+
+-- the outcome of a value handed over with an answer, outside of a cycle: it was, or nothing changed and there is a reason
+abbrev pub IsHandIf : World → Hand → Reply → Option Why → World → Type 0
+IsHandIf w k answer None next = Hands w k × (answer ≡ reply.Fine) × (next ≡ handed_over w k.giver k.value k.taker k.dest)
+IsHandIf w k answer (Some y) next = (next ≡ w) × IsWhyNoHand w k answer y
+
+-- a value that goes from mutator to mutator past all objects; in a cycle, a name that no scan will find is due since this line
+abbrev pub CanGiveOver : ℕ → Hand → Reply → Watch → Watch → Type 0
+CanGiveOver line k answer (watch.Between w) next = (after : World) × IsHandIf w k answer None after × (next ≡ watch.Between after)
+CanGiveOver line k answer (watch.Marking h) next = (after : Hybrid) × IsGivenOver line k h after × (answer ≡ reply.Fine) × (next ≡ watch.Marking after)
+CanGiveOver line k answer (watch.Ended left) next = (after : World) × IsHandIf left.world k answer None after ×
+    (next ≡ watch.Ended (record left { world = after }))
+CanGiveOver line k answer watch.Stopped next = ⊥
+
+-- the reasons why a value can't have been handed over: the heap can't do so, or answers `ok`; or the watch has stopped
+abbrev pub WhyNotGivenOver : Hand → Reply → Watch → Why → Type 0
+WhyNotGivenOver k answer (watch.Between w) y = IsWhyNoHand w k answer y
+WhyNotGivenOver k answer (watch.Marking h) y = IsWhyNoHand h.watch.world k answer y
+WhyNotGivenOver k answer (watch.Ended left) y = IsWhyNoHand left.world k answer y
+WhyNotGivenOver k answer watch.Stopped y = y ≡ why.Misplaced
 
 -- a world does a command, with any reply that means that it was done
 abbrev pub IsDone : World → ℕ → Command → World → Type 0
@@ -154,6 +176,21 @@ WhyScan m (watch.Between w) y = y ≡ why.Misplaced
 WhyScan m (watch.Marking h) y = IsNotScanned h m y
 WhyScan m (watch.Ended left) y = y ≡ why.Misplaced
 WhyScan m watch.Stopped y = y ≡ why.Misplaced
+
+-- a mutator needs no scan: no cycle goes on, or it is scanned already
+abbrev pub NeedsNoScan : ℕ → Watch → Type 0
+NeedsNoScan m (watch.Between w) = Unit {0}
+NeedsNoScan m (watch.Marking h) = is_scanned h m ≡ true
+NeedsNoScan m (watch.Ended left) = Unit {0}
+NeedsNoScan m watch.Stopped = Unit {0}
+
+-- a mutator counts as scanned afterwards: it is scanned, or it needs no scan and nothing changes
+abbrev pub CountsAsScanned : ℕ → Watch → Watch → Type 0
+CountsAsScanned m p next = CanScan m p next ⊎ ((next ≡ p) × NeedsNoScan m p)
+
+-- the end of a mutator, before the stop: all its registers are emptied, and then it counts as scanned
+abbrev pub CanExit : ℕ → ℕ → Watch → Watch → Type 0
+CanExit line m p next = (between : Watch) × CanRows line m (emptied REGISTERS) p between × CountsAsScanned m between next
 
 -- a push in a cycle: of any name that the heap has, due or not, and at any time
 abbrev pub CanPush : Name → Watch → Watch → Type 0
@@ -345,6 +382,57 @@ is_old serials name = is_same_name name shared_name || ltb name.serial (slice_in
 abbrev pub IsOld : CycleResult → Name → Type 0
 IsOld left name = is_old left.old name ≡ true
 
+-- a report that the runtime marked exactly these names, if names made since the snapshot don't count. The heap has each name.
+-- All kept names are reported, and every reported name of the snapshot is kept
+pub record IsBlack (names : List Name) (left : CycleResult) : Type 0 where
+  pub there : (name : Name) → Contains names name → IsSome (node_of left.world name)
+  pub kept : (name : Name) → Contains left.kept name → Contains names name
+  pub old : (name : Name) → Contains names name → IsOld left name → Contains left.kept name
+
+-- a name of the snapshot that isn't kept
+abbrev pub IsUnkept : CycleResult → Name → Type 0
+IsUnkept left name = IsOld left name × (Contains left.kept name → ⊥)
+
+-- the outcome of a test of a reported name: it was made since the snapshot or is kept, or it is neither
+abbrev pub IsBlackName : CycleResult → Name → Bool → Type 0
+IsBlackName left name true = IsOld left name → Contains left.kept name
+IsBlackName left name false = IsUnkept left name
+
+-- the outcome of a search among reported names for the first name of the snapshot that isn't kept
+abbrev pub IsUnkeptIf : List Name → CycleResult → Option Name → Type 0
+IsUnkeptIf names left None = (name : Name) → Contains names name → IsOld left name → Contains left.kept name
+IsUnkeptIf names left (Some name) = StandsFirst names (IsUnkept left) name
+
+-- the outcome of a search among names for the first name that the heap doesn't have
+abbrev pub IsUnknownIf : World → List Name → Option Name → Type 0
+IsUnknownIf w names None = (name : Name) → Contains names name → IsSome (node_of w name)
+IsUnknownIf w names (Some name) = StandsFirst names (λ other. IsSome (node_of w other) → ⊥) name
+
+-- a report after a cycle of the names that the runtime marked, perhaps with names made since the snapshot
+abbrev pub CanBlack : List Name → Watch → Watch → Type 0
+CanBlack names (watch.Between w) next = ⊥
+CanBlack names (watch.Marking h) next = ⊥
+CanBlack names (watch.Ended left) next = IsBlack names left × (next ≡ watch.Ended left)
+CanBlack names watch.Stopped next = ⊥
+
+-- the reason why the runtime can't have marked these names: there was no cycle, or a cycle goes on. Or it is the first reported
+-- name that the heap doesn't have. If there is none, it is the first kept name that isn't reported. If there is none either, it
+-- is the first reported name of the snapshot that isn't kept
+abbrev pub WhyBlack : List Name → Watch → Why → Type 0
+WhyBlack names (watch.Between w) y = y ≡ why.Misplaced
+WhyBlack names (watch.Marking h) y = y ≡ why.Misplaced
+WhyBlack names (watch.Ended left) y = ((name : Name) × (y ≡ why.NoSuchName name) × IsUnknownIf left.world names (Some name)) ⊎
+    (((name : Name) → Contains names name → IsSome (node_of left.world name)) ×
+    (((name : Name) × (y ≡ why.NotListed name) × IsMissing names left.kept name) ⊎
+    (((name : Name) → Contains left.kept name → Contains names name) ×
+    ((name : Name) × (y ≡ why.NotMarked name) × IsUnkeptIf names left (Some name)))))
+WhyBlack names watch.Stopped y = y ≡ why.Misplaced
+
+-- the outcome of a check of reported names, those made since the snapshot left out: there is no reason against them, or one
+abbrev pub IsBlackIf : List Name → CycleResult → Option Why → Type 0
+IsBlackIf names left None = IsBlack names left
+IsBlackIf names left (Some y) = WhyBlack names (watch.Ended left) y
+
 -- a name that may be freed: the heap and the snapshot have it, and no command or weak pointer that lives on needs it
 abbrev pub MayFree : CycleResult → Name → Type 0
 MayFree left name = IsSome (node_of left.world name) × IsOld left name × (Contains left.needed name → ⊥)
@@ -394,23 +482,27 @@ WhyStop (watch.Ended left) y = ⊥
 WhyStop watch.Stopped y = y ≡ why.Misplaced
 
 -- an event of a line can happen in a state, with the state after it. Several commands: each is done after the commands before
--- it. A settle: this mutator has no debt. A take: the name was pushed and is in the snapshot. A close: there are no debts,
--- and if takes are reported, all pushed names except g were taken. A close that reports which weak pointers die: each is dead
--- if exactly these die. Either close: all mutators are scanned. A scan: this mutator isn't scanned. Marked: exactly the names
--- that the cycle kept. Freed: names of the snapshot that the heap has, and that neither the commands nor a weak pointer that
--- lives on need. A stop: a cycle has ended
+-- it. A hand: the heap can hand the value over. A settle: this mutator has no debt. A take: the name was pushed and is in the
+-- snapshot. A close: there are no debts, and if takes are reported, all pushed names except g were taken. A close that reports
+-- which weak pointers die: each is dead if exactly these die. Either close: all mutators are scanned. A scan: this mutator
+-- isn't scanned. An exit: the mutator's registers are emptied, and it counts as scanned. Marked: exactly the names that the
+-- cycle kept. Black: these names, and any made since the snapshot. Freed: names of the snapshot that the heap has, and that
+-- neither the commands nor a weak pointer that lives on need. A stop: a cycle has ended
 abbrev pub Can : ℕ → Watch → Event → Watch → Type 0
 Can line p (event.Given m c answer) next = CanGive line m c answer p next
 Can line p (event.Rows m commands) next = CanRows line m commands p next
+Can line p (event.Hand k answer) next = CanGiveOver line k answer p next
 Can line p event.Mark next = CanMark p next
 Can line p event.MarkShared next = CanMarkShared p next
 Can line p (event.Scan m) next = CanScan m p next
 Can line p (event.Push name) next = CanPush name p next
+Can line p (event.Exit m) next = CanExit line m p next
 Can line p (event.Settle m) next = CanSettle m p next
 Can line p (event.Take name) next = CanTake name p next
 Can line p event.Close next = CanClose p next
 Can line p (event.CloseWith dead) next = CanCloseWith dead p next
 Can line p (event.Marked names) next = CanMarked names p next
+Can line p (event.Black names) next = CanBlack names p next
 Can line p (event.Freed names) next = CanFreed names p next
 Can line p event.Stop next = CanStop p next
 
@@ -418,21 +510,25 @@ Can line p event.Stop next = CanStop p next
 abbrev pub IsWhy : Watch → Event → Why → Type 0
 IsWhy p (event.Given m c answer) y = WhyGive m c answer p y
 IsWhy p (event.Rows m commands) y = (line : ℕ) × (last : Watch) × WhyRows line m commands p y last
+IsWhy p (event.Hand k answer) y = WhyNotGivenOver k answer p y
 IsWhy p event.Mark y = WhyMark p y
 IsWhy p event.MarkShared y = WhyMark p y
 IsWhy p (event.Scan m) y = WhyScan m p y
 IsWhy p (event.Push name) y = WhyPush name p y
+IsWhy p (event.Exit m) y = (line : ℕ) × (last : Watch) × WhyRows line m (emptied REGISTERS) p y last
 IsWhy p (event.Settle m) y = WhySettle m p y
 IsWhy p (event.Take name) y = WhyTake name p y
 IsWhy p event.Close y = WhyClose p y
 IsWhy p (event.CloseWith dead) y = WhyCloseWith dead p y
 IsWhy p (event.Marked names) y = WhyMarked names p y
+IsWhy p (event.Black names) y = WhyBlack names p y
 IsWhy p (event.Freed names) y = WhyFreed names p y
 IsWhy p event.Stop y = WhyStop p y
 
 -- the state after a refused event: nothing changes, except that several commands of a line are done up to the refused command
 abbrev pub Leaves : ℕ → Watch → Event → Why → Watch → Type 0
 Leaves line p (event.Rows m commands) y next = WhyRows line m commands p y next
+Leaves line p (event.Exit m) y next = WhyRows line m (emptied REGISTERS) p y next
 Leaves line p e y next = next ≡ p
 
 -- a step: the event happened; or there is a reason, and only the commands of the line before the refused command were done

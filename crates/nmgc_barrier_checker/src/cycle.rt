@@ -9,7 +9,7 @@
 //! Easy to get wrong: a name outside the snapshot has no position in a set. It can't be due; a push of it changes nothing.
 ghost use Rattle.std.specs.Prelude.{◌≡◌, ◌↔◌, ◌<◌, ◌⊎◌, ◌++◌, ◌∷◌, List, [], true, false, length, slice_index_or, Contains, None, Some, IfOk, OnOk, IsSome, IsTrue};
 ghost use Rattle.nmgc_barrier_laws.specs.declared.debt.Debt.{Debt as DebtAt};
-ghost use Rattle.nmgc_world_spec.specs.{declared.value.Name.Name as NameAt, Reach.IsBefore, World.node_of, World.state_of, World.next_name};
+ghost use Rattle.nmgc_world_spec.specs.{declared.value.Name.Name as NameAt, Reach.IsBefore, World.node_of, World.state_of, World.next_name, World.with_register};
 ghost use Rattle.nmgc_barrier_checker.specs.{Dues.targets, Dues.handed_in, Cycles.IsUntakenIn, Cycles.is_untaken};
 
 use crate::accounts::Accounts;
@@ -18,6 +18,7 @@ use crate::due::{
     owable_names, push_came,
 };
 use crate::event::Why;
+use crate::hand::{Hand, can_hand, given_names};
 use crate::name_set::NameSet;
 use crate::rows::is_done;
 use crate::sorted_names::is_before;
@@ -25,7 +26,7 @@ use nmgc_barrier_laws::Debt;
 use nmgc_graph::World;
 use nmgc_graph::opened::{finalised_by, names_among, opened_by};
 use nmgc_lists::{NoMemory, Queue};
-use nmgc_world_spec::{Command, Name, Reply};
+use nmgc_world_spec::{Command, Name, Reply, Value};
 use std::alloc::Global;
 use std::marker::Model;
 
@@ -53,10 +54,10 @@ impl Model for Cycle {
 }
 
 impl Cycle {
-    ghost use Rattle.nmgc_world_spec.specs.Known.{CanApply};
-    ghost use Rattle.nmgc_barrier_laws.specs.{Cycle.watching, Cycle.IsPushed, Hybrid.beginning, Hybrid.IsDueIn};
+    ghost use Rattle.nmgc_world_spec.specs.Known.{CanApply, IsKnown, IsRegister};
+    ghost use Rattle.nmgc_barrier_laws.specs.{Cycle.watching, Cycle.IsPushed, Hybrid.beginning, Hybrid.IsDueIn, Hybrid.IsHandedBy};
     ghost use Rattle.nmgc_barrier_checker.specs.CameDue.{IsAdded, IsAddedIf};
-    ghost use Rattle.nmgc_barrier_checker.specs.Cycles.{IsSnapshotOf, with_scans, IsTaken, IsRead, IsCommand, IsActing, IsPush, IsSettle, IsTake, IsLeastDebt, IsUntakenIf};
+    ghost use Rattle.nmgc_barrier_checker.specs.Cycles.{IsSnapshotOf, with_scans, IsTaken, IsRead, IsMadeDue, Hands, IsGivenOver, IsHand, IsCommand, IsActing, IsPush, IsSettle, IsTake, IsLeastDebt, IsUntakenIf};
 
     /// Begins a cycle with this world as its snapshot. Takes time and memory for each object, and for each name and mutator.
     pub fn new(world: &World) -> Result<Self, NoMemory>
@@ -204,6 +205,76 @@ impl Cycle {
         self.accounts
             .owe(&self.snapshot, marks, line, mutator, names.as_slice())?;
         Ok(())
+    }
+
+    /// Hands a value over if the heap can do so and the answer is `Fine`. Otherwise returns why not, and changes nothing. A
+    /// name of the snapshot is due since `line` if only the taker is scanned, unless it was pushed or the giver owes it
+    /// already. Adds the number of names that came due, pushed or not, to `dues`. After `NoMemory` some names may be due. Takes
+    /// amortised constant time.
+    pub fn do_hand(
+        &mut self,
+        scans: &[bool],
+        line: usize,
+        hand: Hand,
+        answer: Reply,
+        dues: &mut u64,
+    ) -> Result<Option<Why>, NoMemory>
+        ensures hand { IfOk result (λ why. IsHand line hand answer (with_scans scans.now self.old) why (with_scans scans.now self.new)) }
+        ensures dues { IfOk result (λ why. IsAddedIf (IsHandedBy (with_scans scans.now self.old) hand.giver hand.value hand.taker) why dues.old dues.new) }
+    {
+        if !can_hand(&self.world, hand) {
+            return Ok(Some(Why::CannotApply));
+        }
+        if answer != Reply::Fine {
+            return Ok(Some(Why::Answer(Reply::Fine)));
+        }
+        self.hand(scans, line, hand, dues)?;
+        Ok(None)
+    }
+
+    // Hands a value over. Requires that the heap can do so.
+    fn hand(
+        &mut self,
+        scans: &[bool],
+        line: usize,
+        hand: Hand,
+        dues: &mut u64,
+    ) -> Result<(), NoMemory>
+        requires { Hands self.old.world hand }
+        ensures dues { OnOk result (IsAdded (IsHandedBy (with_scans scans.now self.old) hand.giver hand.value hand.taker) dues.old dues.new) }
+        ensures given { OnOk result (IsGivenOver line hand (with_scans scans.now self.old) (with_scans scans.now self.new)) }
+    {
+        let value = self.world.value(hand.giver, hand.value);
+        let seen = is_set(scans, hand.giver);
+        let names = given_names(seen, is_set(scans, hand.taker), &self.snapshot, value)?;
+        let came = count_due(&self.snapshot, names.as_slice())?;
+        *dues = dues.saturating_add(came);
+        self.owe_names(line, hand.giver, names.as_slice())?;
+        self.set_register(hand.taker, hand.dest, value);
+        Ok(())
+    }
+
+    // Makes names due by a mutator, without a command. Names of the snapshot count as opened. Each name that may be due was
+    // pushed, or is a debt of this mutator afterwards. After `NoMemory` some names may be debts.
+    fn owe_names(&mut self, line: usize, mutator: u8, names: &[Name]) -> Result<(), NoMemory>
+        requires { mutator < length self.old.world.mutators }
+        ensures { OnOk result (IsMadeDue line mutator names.now self.old self.new) }
+    {
+        self.opened.extend(&self.snapshot, names)?;
+        let marks = &self.remembered.set;
+        self.accounts
+            .owe(&self.snapshot, marks, line, mutator, names)?;
+        Ok(())
+    }
+
+    // Writes a known value into a register of a mutator.
+    fn set_register(&mut self, mutator: u8, register: u8, value: Value)
+        requires mutator { mutator < length self.old.world.mutators }
+        requires register { IsRegister register }
+        requires known { IsKnown self.old.world value }
+        ensures { self.new ≡ record self.old { world = with_register self.old.world mutator register value } }
+    {
+        let _fine = self.world.set_register(mutator, register, value);
     }
 
     /// Reads the registers of a mutator: the names of the snapshot in them count as opened. After `NoMemory` some may. Takes

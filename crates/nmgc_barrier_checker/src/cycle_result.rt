@@ -6,7 +6,7 @@
 ghost use Rattle.std.specs.Prelude.{◌≡◌, ◌↔◌, slice_index_or, IfOk, IsTrue, Contains};
 ghost use Rattle.nmgc_world_spec.specs.declared.value.Name.{Name as NameAt};
 ghost use Rattle.nmgc_graph.specs.{Marks.IsMarked, Search.IsSetOf};
-ghost use Rattle.nmgc_barrier_checker.specs.Watching.{IsMissingIf, is_old};
+ghost use Rattle.nmgc_barrier_checker.specs.Watching.{IsMissingIf, IsUnknownIf, is_old};
 
 use crate::event::Why;
 use crate::sorted_names::SortedNames;
@@ -28,7 +28,7 @@ pub struct CycleResult {
 }
 
 impl CycleResult {
-    ghost use Rattle.nmgc_barrier_checker.specs.Watching.{IsMarkedIf, IsFreedIf};
+    ghost use Rattle.nmgc_barrier_checker.specs.Watching.{IsMarkedIf, IsBlackIf, IsBlackName, IsUnkeptIf, IsFreedIf};
 
     /// Returns the reason, if any, why the runtime can't have marked exactly these names: a kept name isn't among them, or
     /// one of them isn't kept. Takes memory and time for each kept name, and a binary search for each reported name.
@@ -42,6 +42,46 @@ impl CycleResult {
             Some(name) => Ok(Some(Why::NotMarked(name))),
             None => Ok(None),
         }
+    }
+
+    /// Returns the reason, if any, why the runtime can't have marked exactly these names, if those made since the snapshot
+    /// don't count. A name isn't in the heap, a kept name isn't among them, or a name of the snapshot among them isn't kept.
+    /// Takes memory and time for each kept name, and a binary search for each reported name.
+    pub fn reason_against_black(&self, names: &[Name]) -> Result<Option<Why>, NoMemory>
+        ensures { IfOk result (IsBlackIf names.now self.now) }
+    {
+        if let Some(name) = first_unknown(&self.world, names) {
+            return Ok(Some(Why::NoSuchName(name)));
+        }
+        if let Some(name) = self.kept.first_left_out(self.world.alloc(), names)? {
+            return Ok(Some(Why::NotListed(name)));
+        }
+        match self.first_unkept(names) {
+            Some(name) => Ok(Some(Why::NotMarked(name))),
+            None => Ok(None),
+        }
+    }
+
+    // Returns the first of these names that the snapshot has and the cycle didn't keep, if any.
+    fn first_unkept(&self, names: &[Name]) -> Option<Name>
+        ensures { IsUnkeptIf names.now self.now result }
+    {
+        for name in names {
+            if !self.may_be_black(*name) {
+                return Some(*name);
+            }
+        }
+        None
+    }
+
+    // Whether a marked name may be this name: it was made since the snapshot, or the cycle kept it.
+    fn may_be_black(&self, name: Name) -> bool
+        ensures { IsBlackName self.now name result }
+    {
+        if !is_old(self.old.items(), name) {
+            return true;
+        }
+        self.kept.has(name)
     }
 
     /// Returns the reason, if any, why the runtime can't have freed these names. Each name has to be in the heap and in the
@@ -64,6 +104,18 @@ impl CycleResult {
         }
         None
     }
+}
+
+// Returns the first of these names that the heap doesn't have, if any.
+fn first_unknown(world: &World, names: &[Name]) -> Option<Name>
+    ensures { IsUnknownIf world.now names.now result }
+{
+    for name in names {
+        if world.node(*name).is_none() {
+            return Some(*name);
+        }
+    }
+    None
 }
 
 // Whether the name is g or one of a world's names. `serials` has the number of names of each mutator in that world.

@@ -1,4 +1,5 @@
 //! The events of a trace, and the reasons why an event can't have happened.
+use crate::hand::Hand;
 use nmgc_barrier_laws::Debt;
 use nmgc_lists::List;
 use nmgc_world_spec::{Command, Name, Reply};
@@ -18,6 +19,11 @@ pub enum Event {
         mutator: u8,
         commands: List<Command>,
     },
+    /// A value went from mutator to mutator, with this answer. The heap answers `Fine`.
+    Hand {
+        hand: Hand,
+        answer: Reply,
+    },
     /// Marking begins: the world is the snapshot.
     Mark,
     /// Marking begins with the shared array and the finaliser queues as its only roots. Registers are read at scans.
@@ -29,6 +35,10 @@ pub enum Event {
     /// A barrier, or the collector itself, remembered the name.
     Push {
         name: Name,
+    },
+    /// A mutator ends: its registers are nil, and it counts as scanned.
+    Exit {
+        mutator: u8,
     },
     /// All names that the mutator's commands made due so far are remembered.
     Settle {
@@ -46,6 +56,10 @@ pub enum Event {
     },
     /// In the last cycle the runtime marked exactly these names of the snapshot.
     Marked {
+        names: List<Name>,
+    },
+    /// In the last cycle the runtime marked exactly these names, those made since it began left out.
+    Black {
         names: List<Name>,
     },
     /// After the last cycle the runtime freed these names of its snapshot.

@@ -4,8 +4,9 @@
 //!
 //! Easy to get wrong: an index above the greatest number becomes the greatest, which no object has, so the heap refuses it.
 ghost use Rattle.std.specs.Prelude.{◌≡◌, ◌<◌, IfOk};
-ghost use Rattle.nmgc_barrier_checker.specs.Rows.{is_done, turn_place, index_at, load_of, store_of, write_of, copied, filled};
+ghost use Rattle.nmgc_barrier_checker.specs.Rows.{is_done, turn_place, index_at, load_of, store_of, write_of, copied, filled, emptied};
 
+use nmgc_limits::REGISTERS;
 use nmgc_lists::{List, NoMemory};
 use nmgc_world_spec::{Command, Operand, Reply};
 use std::alloc::Global;
@@ -51,6 +52,18 @@ pub fn fill_commands(alloc: Global, filling: Filling) -> Result<List<Command>, N
     let mut commands = List::new(alloc);
     for turn in 0..filling.count {
         commands.push(fill_store(filling, turn))?;
+    }
+    Ok(commands)
+}
+
+/// Returns the commands that empty all registers of a mutator, in order. Takes time and memory for each register.
+#[tactic(auto, unfolding(crate::specs::Rows::emptied))]
+pub fn nil_commands(alloc: Global) -> Result<List<Command>, NoMemory>
+    ensures { IfOk result (λ commands. commands ≡ emptied REGISTERS) }
+{
+    let mut commands = List::new(alloc);
+    for register in 0..REGISTERS {
+        commands.push(Command::Nil { dest: register })?;
     }
     Ok(commands)
 }

@@ -3,19 +3,20 @@
 //! each mutator are read later, at a scan of its own.
 //!
 //! Easy to get wrong: a refused event changes nothing, so a test can go on. But the commands before it in its line stay done.
-ghost use Rattle.std.specs.Prelude.{◌≡◌, ◌↔◌, ◌<◌, ◌≤◌, true, length, replicate, slice_set, IfOk, IsTrue};
+ghost use Rattle.std.specs.Prelude.{◌≡◌, ◌↔◌, ◌<◌, ◌≤◌, true, length, replicate, slice_set, IfNone, IfOk, IsTrue};
 ghost use Rattle.nmgc_world_spec.specs.World.{new_world};
 ghost use Rattle.nmgc_barrier_laws.specs.declared.debt.Debt.{Debt as DebtAt};
-ghost use Rattle.nmgc_barrier_checker.specs.{CameDue.AddsDuesIf, CameDue.CountsDuesIf, Watching.IsStep, Watching.IsGivenIf, Watching.IsAct, Watching.IsDoneIf, Watching.IsOwed, Watching.AreActed, Watching.is_marking, Watching.is_stopped, Watching.mutators_of};
+ghost use Rattle.nmgc_barrier_checker.specs.{CameDue.AddsDuesIf, CameDue.CountsDuesIf, Rows.emptied, Watching.IsStep, Watching.IsGivenIf, Watching.IsAct, Watching.IsDoneIf, Watching.IsHandIf, Watching.IsOwed, Watching.AreActed, Watching.is_marking, Watching.is_stopped, Watching.mutators_of};
 ghost use Rattle.nmgc_barrier_checker.specs.declared.event.Event.TheVariants as event;
 ghost use Rattle.nmgc_barrier_checker.specs.declared.watch.Watch.TheVariants as watch;
 
 use crate::cycle::{Cycle, is_set};
 use crate::cycle_result::CycleResult;
 use crate::event::{Event, Why};
-use crate::rows::is_done;
+use crate::hand::{Hand, can_hand};
+use crate::rows::{is_done, nil_commands};
 use nmgc_graph::World;
-use nmgc_limits::MAKERS;
+use nmgc_limits::{MAKERS, REGISTERS};
 use nmgc_lists::{List, NoMemory};
 use nmgc_world_spec::{Command, Name, Reply};
 use std::alloc::Global;
@@ -39,9 +40,9 @@ impl Model for Running {
 }
 
 impl Running {
-    ghost use Rattle.nmgc_barrier_laws.specs.Hybrid.{IsDueIn, scanned_at_once, beginning, is_scanned};
+    ghost use Rattle.nmgc_barrier_laws.specs.Hybrid.{IsDueIn, IsHandedBy, scanned_at_once, beginning, is_scanned};
     ghost use Rattle.nmgc_barrier_checker.specs.CameDue.{IsAddedIf};
-    ghost use Rattle.nmgc_barrier_checker.specs.{Cycles.IsCommand, Cycles.IsActing, Cycles.IsScan, Cycles.IsSettle, Watching.IsUnscannedIf, Watching.IsEndingIn, Watching.IsEndingWithIn};
+    ghost use Rattle.nmgc_barrier_checker.specs.{Cycles.IsCommand, Cycles.IsActing, Cycles.IsHand, Cycles.IsScan, Cycles.IsSettle, Watching.IsUnscannedIf, Watching.IsEndingIn, Watching.IsEndingWithIn};
 
     // Begins a cycle with this world as its snapshot and all mutators scanned. Takes the time and memory of `Cycle::new`.
     fn new(world: &World) -> Result<Self, NoMemory>
@@ -110,6 +111,21 @@ impl Running {
     {
         self.cycle
             .act(self.scans.items(), line, mutator, command, dues)
+    }
+
+    // Hands a value over, as `Cycle::do_hand`.
+    fn do_hand(
+        &mut self,
+        line: usize,
+        hand: Hand,
+        answer: Reply,
+        dues: &mut u64,
+    ) -> Result<Option<Why>, NoMemory>
+        ensures dues { IfOk result (λ why. IsAddedIf (IsHandedBy self.old hand.giver hand.value hand.taker) why dues.old dues.new) }
+        ensures hand { IfOk result (λ why. IsHand line hand answer self.old why self.new) }
+    {
+        self.cycle
+            .do_hand(self.scans.items(), line, hand, answer, dues)
     }
 
     // Whether the mutator is scanned.
@@ -241,15 +257,18 @@ impl Watch {
             Event::Rows { mutator, commands } => {
                 self.do_line(line, *mutator, commands.items(), dues)
             }
+            Event::Hand { hand, answer } => self.hand(line, *hand, *answer, dues),
             Event::Mark => self.mark(),
             Event::MarkShared => self.mark_shared(),
             Event::Scan { mutator } => self.scan(*mutator),
             Event::Push { name } => self.push(*name),
+            Event::Exit { mutator } => self.exit(line, *mutator, dues),
             Event::Settle { mutator } => Ok(self.reason_against_settle(*mutator)),
             Event::Take { name } => self.take(*name),
             Event::Close => self.close(),
             Event::CloseWith { dead } => self.close_with(dead.items()),
             Event::Marked { names } => self.reason_against_marked(names.items()),
+            Event::Black { names } => self.reason_against_black(names.items()),
             Event::Freed { names } => Ok(self.reason_against_freed(names.items())),
             Event::Stop => Ok(self.stop()),
         }
@@ -291,6 +310,25 @@ impl Watch {
             Watch::Between(world) => give(world, mutator, command, answer),
             Watch::Marking(running) => running.do_command(line, mutator, command, answer, dues),
             Watch::Ended(left) => give(&mut left.world, mutator, command, answer),
+            Watch::Stopped => Ok(Some(Why::Misplaced)),
+        }
+    }
+
+    // Hands a value over if the heap can do so and answers this. Otherwise changes nothing and returns why not.
+    fn hand(
+        &mut self,
+        line: usize,
+        hand: Hand,
+        answer: Reply,
+        dues: &mut u64,
+    ) -> Result<Option<Why>, NoMemory>
+        ensures step { IfOk result (λ why. IsStep line self.old (event.Hand hand answer) why self.new) }
+        ensures dues { IfOk result (λ why. CountsDuesIf line self.old (event.Hand hand answer) why dues.old dues.new) }
+    {
+        match self {
+            Watch::Between(world) => Ok(hand_over(world, hand, answer)),
+            Watch::Marking(running) => running.do_hand(line, hand, answer, dues),
+            Watch::Ended(left) => Ok(hand_over(&mut left.world, hand, answer)),
             Watch::Stopped => Ok(Some(Why::Misplaced)),
         }
     }
@@ -420,6 +458,49 @@ impl Watch {
         }
     }
 
+    // Empties the registers of a mutator that ends, and scans it if a cycle goes on that hasn't scanned it. Returns the
+    // reason why it can't end, if there is one.
+    fn exit(&mut self, line: usize, mutator: u8, dues: &mut u64) -> Result<Option<Why>, NoMemory>
+        ensures step { IfOk result (λ why. IsStep line self.old (event.Exit mutator) why self.new) }
+        ensures dues { IfOk result (λ why. CountsDuesIf line self.old (event.Exit mutator) why dues.old dues.new) }
+    {
+        let why = self.empty_registers(line, mutator, dues)?;
+        if why.is_some() {
+            return Ok(why);
+        }
+        let _scanned_before = self.scan(mutator)?;
+        Ok(None)
+    }
+
+    // Empties all registers of a mutator by commands of one line, or returns the reason why it can't.
+    fn empty_registers(
+        &mut self,
+        line: usize,
+        mutator: u8,
+        dues: &mut u64,
+    ) -> Result<Option<Why>, NoMemory>
+        ensures step { IfOk result (λ why. IsStep line self.old (event.Rows mutator (emptied REGISTERS)) why self.new) }
+        ensures dues { IfOk result (λ why. CountsDuesIf line self.old (event.Rows mutator (emptied REGISTERS)) why dues.old dues.new) }
+    {
+        let Some(alloc) = self.alloc() else {
+            return Ok(Some(Why::Misplaced));
+        };
+        let commands = nil_commands(alloc)?;
+        self.do_line(line, mutator, commands.items(), dues)
+    }
+
+    // Returns the allocator of the heap, or `None` after the stop.
+    fn alloc(&self) -> Option<Global>
+        ensures { IfNone result (is_stopped self.now ≡ true) }
+    {
+        match self {
+            Watch::Between(world) => Some(world.alloc()),
+            Watch::Marking(running) => Some(running.cycle().world().alloc()),
+            Watch::Ended(left) => Some(left.world.alloc()),
+            Watch::Stopped => None,
+        }
+    }
+
     // Takes the push of a name (`Cycle::push`), or returns the reason why the name can't have been pushed.
     fn push(&mut self, name: Name) -> Result<Option<Why>, NoMemory>
         ensures { IfOk result (λ why. IsStep 0 self.old (event.Push name) why self.new) }
@@ -498,6 +579,16 @@ impl Watch {
         }
     }
 
+    // Returns the reason why the runtime can't have marked exactly these names, if those made since the snapshot don't count.
+    fn reason_against_black(&self, names: &[Name]) -> Result<Option<Why>, NoMemory>
+        ensures { IfOk result (λ why. IsStep 0 self.now (event.Black names.now) why self.now) }
+    {
+        match self {
+            Watch::Ended(left) => left.reason_against_black(names),
+            Watch::Between(_) | Watch::Marking(_) | Watch::Stopped => Ok(Some(Why::Misplaced)),
+        }
+    }
+
     // Returns the reason why the runtime can't have freed these names, if there is one.
     fn reason_against_freed(&self, names: &[Name]) -> Option<Why>
         ensures { IsStep 0 self.now (event.Freed names.now) result self.now }
@@ -559,6 +650,21 @@ fn give(
     }
     world.apply(mutator, command)?;
     Ok(None)
+}
+
+// Hands a value over in the world if it can do so and answers this. Otherwise returns why not and changes nothing.
+fn hand_over(world: &mut World, hand: Hand, answer: Reply) -> Option<Why>
+    ensures { IsHandIf world.old hand answer result world.new }
+{
+    if !can_hand(world, hand) {
+        return Some(Why::CannotApply);
+    }
+    if answer != Reply::Fine {
+        return Some(Why::Answer(Reply::Fine));
+    }
+    let value = world.value(hand.giver, hand.value);
+    let _fine = world.set_register(hand.taker, hand.dest, value);
+    None
 }
 
 // Does a command in the world if the world's answer means that it is done. Otherwise changes nothing and returns the reason.

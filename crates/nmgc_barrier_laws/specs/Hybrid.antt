@@ -1,10 +1,10 @@
 -- A cycle with later roots: each mutator's registers are read when the mutator is scanned. The cycle begins with g and the
 -- finaliser queues as its only roots, so its snapshot is the world without registers. A scan adds the names in the mutator's
 -- registers to the roots. Until its scan, all names that a mutator stores are due, besides the names that are due in any
--- cycle.
+-- cycle. A value that goes from mutator to mutator past all objects is due if the first isn't scanned and the second is.
 use Rattle.std.specs.Prelude.{◌≡◌, ◌≢◌, ◌<◌, ◌↔◌, ◌⊎◌, ℕ, suc, List, [], ◌∷◌, ◌++◌, map, length, replicate, slice_set, slice_index_or, Bool, true, false, IsSome, Contains}
 use Rattle.std.specs.List.{flat_map}
-use Rattle.nmgc_world_spec.specs.{declared.value.Name.Name, declared.value.Value.Value, declared.mutator_state.MutatorState.MutatorState, declared.command.Command.Command, declared.command.Reply.Reply, World.World, World.state_of, World.node_of, World.step, World.shared_name, Known.IsWorld, Known.CanApply, Reach.IsLive, Reach.IsKept, Reach.opened_by, Reach.finalised_by, Reach.name_in}
+use Rattle.nmgc_world_spec.specs.{declared.value.Name.Name, declared.value.Value.Value, declared.mutator_state.MutatorState.MutatorState, declared.command.Command.Command, declared.command.Command.TheVariants.Show, declared.command.Operand.Operand, declared.command.Reply.Reply, World.World, World.state_of, World.node_of, World.step, World.shared_name, World.value_for, World.with_register, Known.IsWorld, Known.IsRegister, Known.CanApply, Reach.IsLive, Reach.IsKept, Reach.opened_by, Reach.finalised_by, Reach.name_in}
 use Rattle.nmgc_world_spec.specs.declared.value.Value.TheVariants as value
 use Rattle.nmgc_snapshot_laws.specs.{State.State, State.names_of, State.mark_name, State.opening, Machine.after_command, Machine.after_scan, Facts.MayHold}
 use Rattle.nmgc_barrier_laws.specs.{declared.debt.Debt.Debt, Due.IsDue, Stored.IsStored, Barrier.names_in, Barrier.after_pushing, Barrier.IsSorted, Barrier.HasFinished, Barrier.EndsExactly}
@@ -88,6 +88,37 @@ pub record IsScanned (h : Hybrid) (m : ℕ) (next : Hybrid) : Type 0 where
   pub opened : (name : Name) → Contains next.watch.opened name ↔ (Contains h.watch.opened name ⊎
       (Contains (held_names h.watch.world m) name × IsSome (node_of h.watch.snapshot name)))
 
+-- the world after a mutator's value went into a register of a mutator, perhaps another
+abbrev pub handed_over : World → ℕ → Operand → ℕ → ℕ → World
+handed_over w m v n r = with_register w n r (value_for w m v)
+
+-- a world can hand a mutator's value over: the mutator can show it, and the other mutator and its register exist
+pub record CanHand (w : World) (m : ℕ) (v : Operand) (n r : ℕ) : Type 0 where
+  pub shows : CanApply w m (Show v)
+  pub taker : n < length w.mutators
+  pub register : IsRegister r
+
+-- a name of the snapshot, not g, that a mutator hands to another. The first isn't scanned yet, and no scan of the other is left
+pub record IsHandedBy (h : Hybrid) (m : ℕ) (v : Operand) (n : ℕ) (target : Name) : Type 0 where
+  pub unscanned : is_scanned h m ≡ false
+  pub scanned : is_scanned h n ≡ true
+  pub there : IsSome (node_of h.watch.snapshot target)
+  pub own : target ≢ shared_name
+  pub is : value_for h.watch.world m v ≡ value.Ref target
+
+-- a value that is handed over at a line. A name that the mutator hands to a scanned mutator before its own scan is due, and
+-- counts as opened
+pub record IsHandedOver (h : Hybrid) (line m : ℕ) (v : Operand) (n r : ℕ) (next : Hybrid) : Type 0 where
+  pub can : CanHand h.watch.world m v n r
+  pub rest : next ≡ record h {
+    watch = record h.watch { world = handed_over h.watch.world m v n r; debts = next.watch.debts; opened = next.watch.opened };
+  }
+  pub opened : (name : Name) → Contains next.watch.opened name ↔ (Contains h.watch.opened name ⊎ IsHandedBy h m v n name)
+  pub old : (debt : Debt) → Contains h.watch.debts debt → Contains next.watch.debts debt
+  pub new : (debt : Debt) → Contains next.watch.debts debt → Contains h.watch.debts debt ⊎
+      ((debt.line ≡ line) × (debt.mutator ≡ m) × IsHandedBy h m v n debt.name × (Contains h.watch.remembered debt.name → ⊥))
+  pub due : (name : Name) → IsHandedBy h m v n name → Contains h.watch.remembered name ⊎ OwesBy next.watch m name
+
 -- a push, as in a cycle with one snapshot: it scans no mutator
 pub record IsPushedIn (h : Hybrid) (name : Name) (next : Hybrid) : Type 0 where
   pub push : IsPushed h.watch name next.watch
@@ -98,10 +129,13 @@ pub record IsTookIn (h : Hybrid) (name : Name) (next : Hybrid) : Type 0 where
   pub took : IsTook h.watch name next.watch
   pub scanned : next.scanned ≡ h.scanned
 
--- a cycle with later roots that began with this world, after any commands, scans, pushes and takes
+-- a cycle that began with this world, after any commands, values handed over, scans, pushes and takes. It began with later
+-- roots, or with all mutators scanned at once
 pub data WatchesIn (w : World) : Hybrid → Type 0 where
   begun : WatchesIn w (beginning w)
+  begun_at_once : WatchesIn w (scanned_at_once w)
   given : (h next : Hybrid) (line m : ℕ) (c : Command) (answer : Reply) → WatchesIn w h → IsWatchedIn h line m c answer next → WatchesIn w next
+  handed : (h next : Hybrid) (line m : ℕ) (v : Operand) (n r : ℕ) → WatchesIn w h → IsHandedOver h line m v n r next → WatchesIn w next
   scanned : (h next : Hybrid) (m : ℕ) → WatchesIn w h → IsScanned h m next → WatchesIn w next
   pushed : (h next : Hybrid) (name : Name) → WatchesIn w h → IsPushedIn h name next → WatchesIn w next
   taken : (h next : Hybrid) (name : Name) → WatchesIn w h → IsTookIn h name next → WatchesIn w next
@@ -117,16 +151,26 @@ after_owing_in s m c names = record (after_command s m c) {
   opened = s.opened ++ (opened_by s.world m c ++ names);
 }
 
+-- the state after a value was handed over: these names are owed, and count as opened
+abbrev pub after_handing : State → ℕ → Operand → ℕ → ℕ → List Name → State
+after_handing s m v n r names = record s {
+  world = handed_over s.world m v n r;
+  owed = slice_set s.owed m (names_of s.owed m ++ names);
+  opened = s.opened ++ names;
+}
+
 -- the state after a scan: the names in the registers are pushed, and count as opened
 abbrev pub after_scanning : State → ℕ → List Name → State
 after_scanning s m names = record s { opened = s.opened ++ names; pushed = slice_set s.pushed m (names_of s.pushed m ++ names) }
 
--- a cycle with later roots, and the state of a marker beside it, as `Beside`. A scan hands the names in the registers to the
--- marker
+-- such a cycle, and the state of a marker beside it, as `Beside`. A scan hands the names in the registers to the marker
 pub data BesideIn (w : World) : Hybrid → State → Type 0 where
   start : BesideIn w (beginning w) (opening_in w)
+  start_at_once : BesideIn w (scanned_at_once w) (opening w)
   command : (h next : Hybrid) (s : State) (line m : ℕ) (c : Command) (answer : Reply) → BesideIn w h s → IsWatchedIn h line m c answer next →
       BesideIn w next (after_owing_in s m c (names_in next.watch.debts))
+  give : (h next : Hybrid) (s : State) (line m : ℕ) (v : Operand) (n r : ℕ) → BesideIn w h s → IsHandedOver h line m v n r next →
+      BesideIn w next (after_handing s m v n r (names_in next.watch.debts))
   hand : (h next : Hybrid) (s : State) (m : ℕ) → BesideIn w h s → IsScanned h m next → m < length s.pushed →
       BesideIn w next (after_scanning s m (held_names h.watch.world m))
   push : (h next : Hybrid) (s : State) (m : ℕ) (name : Name) → BesideIn w h s → IsPushedIn h name next → m < length s.pushed →

@@ -1,6 +1,7 @@
 pub mod Barrier
 pub mod Cycle
 pub mod Due
+pub mod FieldCycle
 pub mod Hybrid
 pub mod Lax
 pub mod Stored

@@ -1,9 +1,12 @@
 pub mod Beside
 pub mod Commutes
 pub mod CoreIsLax
+pub mod FieldFacts
+pub mod FieldMarking
 pub mod Finishing
 pub mod Floating
 pub mod Given
+pub mod HandedOver
 pub mod LaxRuns
 pub mod HybridBeside
 pub mod HybridCommand

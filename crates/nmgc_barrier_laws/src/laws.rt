@@ -6,7 +6,7 @@
 //! command, another order of waiting names, a push, a mark of a name that may be held, or a scan. A *watched cycle* sees only
 //! commands, pushes and reports of taken names (`Watches`). Its debts are due names not yet pushed. Worlds are closed
 //! (`IsWorld`).
-ghost use Rattle.nmgc_barrier_laws.specs.{Barrier.BarrierTheorem, Barrier.JointTheorem, Barrier.SomeMarkerFinishes, Barrier.SomeMarkerIsBeside, Hybrid.HybridJointTheorem, Hybrid.HybridSafetyTheorem, Hybrid.ScansAtOnceAreRoots, Hybrid.SomeMarkerFinishesIn, Hybrid.SomeMarkerIsBesideIn, Lax.CoreIsLax, Lax.LaxKeepsFacts, Lax.LaxTheorem};
+ghost use Rattle.nmgc_barrier_laws.specs.{Barrier.BarrierTheorem, Barrier.JointTheorem, Barrier.SomeMarkerFinishes, Barrier.SomeMarkerIsBeside, FieldCycle.CommandsAreChanges, FieldCycle.FieldSafetyTheorem, FieldCycle.FieldTheorem, Hybrid.HybridJointTheorem, Hybrid.HybridSafetyTheorem, Hybrid.ScansAtOnceAreRoots, Hybrid.SomeMarkerFinishesIn, Hybrid.SomeMarkerIsBesideIn, Lax.CoreIsLax, Lax.LaxKeepsFacts, Lax.LaxTheorem};
 
 /// Proves that each event that the marking machine does, except the end, is a list of lax steps. Requires that the marking
 /// machine's invariant (`Facts`) holds before the event, and that the world is closed (`IsWorld`).
@@ -78,4 +78,23 @@ pub fn scans_at_once_are_roots()
 /// claim.
 pub fn a_finished_hybrid_marker_is_possible()
     ensures { SomeMarkerFinishesIn }
+{}
+
+/// Proves that a marker is exact if registers aren't known. The heap is fields, and roots are known as they are read. At an
+/// end without debts, with each stored name kept, a marker that is done has marked exactly the kept names (`KeepsName`). It
+/// reads single places of marked objects in any order, in the heap as it is.
+pub fn a_marker_beside_fields_is_exact()
+    ensures { FieldTheorem }
+{}
+
+/// Proves that a cycle of fields loses nothing. If mutators hold only kept names and new names at the end, every name of the
+/// snapshot that they can reach is kept.
+pub fn a_cycle_of_fields_loses_nothing()
+    ensures { FieldSafetyTheorem }
+{}
+
+/// Proves that a command makes the same names due whether or not registers are known, if it opens and finalises no weak
+/// pointer. So the rule for fields is the rule of cycles with later roots (`IsDueIn`).
+pub fn commands_are_changes_of_fields()
+    ensures { CommandsAreChanges }
 {}

@@ -428,8 +428,8 @@ impl World {
         state.nodes.items().get(name.serial as usize)
     }
 
-    // Writes a value into a register, and replies `Fine`.
-    fn set_register(&mut self, mutator: u8, register: u8, value: Value) -> Reply
+    /// Writes a known value into a register of a mutator, and replies `Fine`. Takes no memory, and constant time.
+    pub fn set_register(&mut self, mutator: u8, register: u8, value: Value) -> Reply
         requires mutator { mutator < length self.old.mutators }
         requires register { IsRegister register }
         requires known { IsKnown self.old value }

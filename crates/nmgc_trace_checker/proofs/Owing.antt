@@ -1,7 +1,9 @@
 -- The debts of a trace's state: each was there before or is new at its line, and a reason about a due name is about one of them.
 use Rattle.nmgc_trace_checker.proofs.Vocabulary.{◌≡◌, ◌⊎◌, ℕ, subst, inl, inr, List, [], ◌∷◌, Contains, nothing, Name, Command, Reply, World, Cycle, Hybrid, IsWatchedIn, Watch, CanAct, AreDone, Meaning, Begun, Happens}
 use Rattle.nmgc_barrier_laws.specs.declared.debt.Debt.{Debt}
-use Rattle.nmgc_barrier_checker.specs.{declared.event.Event.Event, Cycles.IsNotDone, Watching.Can, Watching.IsAgainst, Watching.IsAgainstWith, Watching.IsOwed, Watching.IsWhy, Watching.WhyNoAct}
+use Rattle.nmgc_barrier_checker.specs.{declared.event.Event.Event, Cycles.IsNotDone, Watching.Can, Watching.IsAgainst, Watching.IsAgainstWith, Watching.IsOwed, Watching.IsWhy, Watching.WhyNoAct, declared.hand.Hand.Hand, Cycles.IsWhyNoHand, Rows.emptied, Watching.CountsAsScanned}
+use Rattle.nmgc_limits.specs.declared.mutators.TheConstants.{REGISTERS}
+use Rattle.nmgc_world_spec.specs.declared.command.Reply.TheVariants as reply
 use Rattle.nmgc_barrier_checker.specs.declared.event.Event.TheVariants as event
 use Rattle.nmgc_barrier_checker.specs.declared.event.Why.TheVariants as why
 use Rattle.nmgc_barrier_checker.specs.declared.watch.Watch.TheVariants as watch
@@ -32,6 +34,14 @@ module _ (n : ℕ) (d : Debt) where
   done m [] p next a o = inr (owed_in p next a o)
   done m (c ∷ cs) p next a o = elim (done m cs a.0 next a.2 o) [ inl e ↦ inl e | inr b ↦ acts m c p a.0 a.1 b ]
 
+  -- a mutator that counts as scanned makes nothing due
+  counts : (m : ℕ) (p next : Watch) → CountsAsScanned m p next → IsOwed next d → IsOwed p d
+  counts m (watch.Marking h) next (inl k) o = subst (λ (x : Hybrid). Contains x.watch.debts d) k.1.rest (owed_in (watch.Marking k.0) next k.2 o)
+  counts m (watch.Between w) next (inl k) o = absurd k
+  counts m (watch.Ended left) next (inl k) o = absurd k
+  counts m watch.Stopped next (inl k) o = absurd k
+  counts m p next (inr s) o = owed_in p next s.0 o
+
   -- the debts after an event
   from_event : (p next : Watch) (e : Event) → Can n p e next → IsOwed next d → IsFrom n p d
   from_event (watch.Between w) next (event.Given m c answer) k o = inr (owed_in (watch.Between k.0) next k.2 o)
@@ -54,6 +64,15 @@ module _ (n : ℕ) (d : Debt) where
   from_event (watch.Marking h) next (event.Scan m) k o = inr (subst (λ (x : Hybrid). Contains x.watch.debts d) k.1.rest (owed_in (watch.Marking k.0) next k.2 o))
   from_event (watch.Ended left) next (event.Scan m) k o = absurd k
   from_event watch.Stopped next (event.Scan m) k o = absurd k
+  from_event (watch.Between w) next (event.Exit m) k o = done m (emptied REGISTERS) (watch.Between w) k.0 k.1.1 (counts m k.0 next k.2 o)
+  from_event (watch.Marking h) next (event.Exit m) k o = done m (emptied REGISTERS) (watch.Marking h) k.0 k.1.1 (counts m k.0 next k.2 o)
+  from_event (watch.Ended left) next (event.Exit m) k o = done m (emptied REGISTERS) (watch.Ended left) k.0 k.1.1 (counts m k.0 next k.2 o)
+  from_event watch.Stopped next (event.Exit m) k o = absurd k.1
+  from_event (watch.Between w) next (event.Hand v answer) k o = inr (owed_in (watch.Between k.0) next k.2 o)
+  from_event (watch.Marking h) next (event.Hand v answer) k o =
+      elim (k.1.new d (owed_in (watch.Marking k.0) next k.3 o)) [ inl old ↦ inr old | inr p ↦ inl p.0 ]
+  from_event (watch.Ended left) next (event.Hand v answer) k o = inr (owed_in (watch.Ended (record left { world = k.0 })) next k.2 o)
+  from_event watch.Stopped next (event.Hand v answer) k o = absurd k
   from_event (watch.Between w) next (event.Push name) k o = absurd k
   from_event (watch.Marking h) next (event.Push name) k o = inr ((k.1.debts d).0 (owed_in (watch.Marking (record h { watch = k.0 })) next k.2 o)).0
   from_event (watch.Ended left) next (event.Push name) k o = absurd k
@@ -79,6 +98,10 @@ module _ (n : ℕ) (d : Debt) where
   from_event (watch.Marking h) next (event.Marked names) k o = absurd k
   from_event (watch.Ended left) next (event.Marked names) k o = absurd (owed_in (watch.Ended left) next k.1 o)
   from_event watch.Stopped next (event.Marked names) k o = absurd k
+  from_event (watch.Between w) next (event.Black names) k o = absurd k
+  from_event (watch.Marking h) next (event.Black names) k o = absurd k
+  from_event (watch.Ended left) next (event.Black names) k o = absurd (owed_in (watch.Ended left) next k.1 o)
+  from_event watch.Stopped next (event.Black names) k o = absurd k
   from_event (watch.Between w) next (event.Freed names) k o = absurd k
   from_event (watch.Marking h) next (event.Freed names) k o = absurd k
   from_event (watch.Ended left) next (event.Freed names) k o = absurd (owed_in (watch.Ended left) next k.1 o)
@@ -114,6 +137,10 @@ module _ (d : Debt) where
   no_act m c (watch.Ended left) x = x
   no_act m c watch.Stopped x = cc
 
+  no_hand : (w : World) (k : Hand) (answer : Reply) → IsWhyNoHand w k answer (why.Due d) → ⊥
+  no_hand w k answer (inl x) = let bad : why.Due d ≡ why.CannotApply = x.0 in cc
+  no_hand w k answer (inr x) = let bad : why.Due d ≡ why.Answer reply.Fine = x.1 in cc
+
   against : (h : Cycle) → IsAgainst h (why.Due d) → Contains h.debts d
   against h (inl x) = subst (λ (e : Debt). Contains h.debts e) (same_debt x.0 x.1) x.2.0
   against h (inr x) = absurd (let bad : why.Due d ≡ why.Untaken x.1.0 = x.1.1 in cc)
@@ -131,6 +158,14 @@ module _ (d : Debt) where
   of_event (watch.Marking h) (event.Rows m cs) x = absurd (elim x.2 [ inl s ↦ no_act m s.command x.1 s.reason | inr a ↦ (let bad : why.Due d ≡ why.CannotApply = a.0 in cc) ])
   of_event (watch.Ended left) (event.Rows m cs) x = absurd (elim x.2 [ inl s ↦ no_act m s.command x.1 s.reason | inr a ↦ (let bad : why.Due d ≡ why.CannotApply = a.0 in cc) ])
   of_event watch.Stopped (event.Rows m cs) x = absurd (let bad : why.Due d ≡ why.Misplaced = x.2.0 in cc)
+  of_event (watch.Between w) (event.Exit m) x = absurd (elim x.2 [ inl s ↦ no_act m s.command x.1 s.reason | inr a ↦ (let bad : why.Due d ≡ why.CannotApply = a.0 in cc) ])
+  of_event (watch.Marking h) (event.Exit m) x = absurd (elim x.2 [ inl s ↦ no_act m s.command x.1 s.reason | inr a ↦ (let bad : why.Due d ≡ why.CannotApply = a.0 in cc) ])
+  of_event (watch.Ended left) (event.Exit m) x = absurd (elim x.2 [ inl s ↦ no_act m s.command x.1 s.reason | inr a ↦ (let bad : why.Due d ≡ why.CannotApply = a.0 in cc) ])
+  of_event watch.Stopped (event.Exit m) x = absurd (let bad : why.Due d ≡ why.Misplaced = x.2.0 in cc)
+  of_event (watch.Between w) (event.Hand v answer) x = absurd (no_hand w v answer x)
+  of_event (watch.Marking h) (event.Hand v answer) x = absurd (no_hand h.watch.world v answer x)
+  of_event (watch.Ended left) (event.Hand v answer) x = absurd (no_hand left.world v answer x)
+  of_event watch.Stopped (event.Hand v answer) x = absurd (let bad : why.Due d ≡ why.Misplaced = x in cc)
   of_event (watch.Between w) event.Mark x = absurd x
   of_event (watch.Marking h) event.Mark x = absurd (let bad : why.Due d ≡ why.Misplaced = x in cc)
   of_event (watch.Ended left) event.Mark x = absurd x
@@ -171,6 +206,12 @@ module _ (d : Debt) where
   of_event (watch.Between w) (event.Marked names) x = absurd (let bad : why.Due d ≡ why.Misplaced = x in cc)
   of_event (watch.Marking h) (event.Marked names) x = absurd (let bad : why.Due d ≡ why.Misplaced = x in cc)
   of_event watch.Stopped (event.Marked names) x = absurd (let bad : why.Due d ≡ why.Misplaced = x in cc)
+  of_event (watch.Ended left) (event.Black names) (inl x) = absurd (let bad : why.Due d ≡ why.NoSuchName x.0 = x.1 in cc)
+  of_event (watch.Ended left) (event.Black names) (inr (there, inl x)) = absurd (let bad : why.Due d ≡ why.NotListed x.0 = x.1 in cc)
+  of_event (watch.Ended left) (event.Black names) (inr (there, inr (kept, x))) = absurd (let bad : why.Due d ≡ why.NotMarked x.0 = x.1 in cc)
+  of_event (watch.Between w) (event.Black names) x = absurd (let bad : why.Due d ≡ why.Misplaced = x in cc)
+  of_event (watch.Marking h) (event.Black names) x = absurd (let bad : why.Due d ≡ why.Misplaced = x in cc)
+  of_event watch.Stopped (event.Black names) x = absurd (let bad : why.Due d ≡ why.Misplaced = x in cc)
   of_event (watch.Ended left) (event.Freed names) x = absurd (elim x.2 [
     | inl a ↦ (let bad : why.Due d ≡ why.NoSuchName x.0 = a.0 in cc)
     | inr a ↦ elim a.1 [ inl b ↦ (let bad : why.Due d ≡ why.NotOld x.0 = b.0 in cc) | inr b ↦ (let bad : why.Due d ≡ why.Needed x.0 = b.0 in cc) ]

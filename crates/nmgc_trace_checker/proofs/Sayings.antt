@@ -8,11 +8,11 @@ use Rattle.nmgc_io.specs.Text.{tokens_of, is_blank_or_comment, spaced}
 use Rattle.nmgc_script.specs.{Spelling.command_words, laws.Lines.IsWord, laws.Lines.words_again, laws.Lines.tokens_of-line, laws.Lines.made_kept, laws.Lines.command_line}
 use Rattle.nmgc_journal.specs.{Text.name_text, Text.reply_text, Reading.◌>>=◌, Reading.name_at, laws.Reading.bind_some, laws.Reading.guard_some, laws.Reading.name_reads}
 use Rattle.nmgc_lists.specs.laws.Truths.{chosen}
-use Rattle.nmgc_barrier_checker.specs.declared.event.Event.{Event}
+use Rattle.nmgc_barrier_checker.specs.declared.{event.Event.Event, hand.Hand.Hand}
 use Rattle.nmgc_barrier_checker.specs.declared.event.Event.TheVariants as event
-use Rattle.nmgc_trace_checker.specs.{declared.meaning.Meaning.Meaning, Reading.byte_at, Reading.names_at, Reading.pusher_at, Reading.mutators_at, Reading.mark_at, Reading.shared_mark_at, Reading.scan_at, Reading.push_at, Reading.settle_at, Reading.take_at, Reading.close_at, Reading.marked_at, Reading.freed_at, Reading.stop_at, Reading.ending_at, Reading.plain_at, Reading.parts_at, Reading.rows_if, Reading.IsCommandOf, Reading.IsMeaningOfRows, Reading.IsMeaningOfRow, Reading.IsMeaningBy, Said.IsMutators, Said.IsReply, Said.given_words, Said.IsGiven, Said.copy_words, Said.fill_words, Said.IsPusher, Said.names_words, Said.AreNames, Said.SaysEvent, Said.Says}
+use Rattle.nmgc_trace_checker.specs.{declared.meaning.Meaning.Meaning, Reading.byte_at, Reading.names_at, Reading.pusher_at, Reading.mutators_at, Reading.mark_at, Reading.shared_mark_at, Reading.scan_at, Reading.exit_at, Reading.push_at, Reading.settle_at, Reading.take_at, Reading.close_at, Reading.marked_at, Reading.black_at, Reading.freed_at, Reading.stop_at, Reading.ending_at, Reading.plain_at, Reading.parts_at, Reading.hand_at, Reading.rows_if, Reading.IsCommandOf, Reading.IsMeaningOfHand, Reading.IsMeaningOfRows, Reading.IsMeaningOfRow, Reading.IsMeaningBy, Said.IsMutators, Said.IsReply, Said.given_words, Said.IsGiven, Said.IsHanded, Said.hand_words, Said.copy_words, Said.fill_words, Said.IsPusher, Said.names_words, Said.AreNames, Said.SaysEvent, Said.Says}
 use Rattle.nmgc_trace_checker.specs.declared.meaning.Meaning.TheVariants as meaning
-use Rattle.nmgc_trace_checker.proofs.{LineWords.words_are, LineWords.front_words, WordReads.Given, WordReads.AreRows, WordReads.is_word, WordReads.byte_takes, WordReads.byte_again, WordReads.names_read, WordReads.names_reread, WordReads.pusher_takes, WordReads.pusher_again, WordReads.parts_takes, WordReads.parts_again, WordReads.rows_if_takes, WordReads.rows_if_again}
+use Rattle.nmgc_trace_checker.proofs.{LineWords.words_are, LineWords.front_words, WordReads.Given, WordReads.AreRows, WordReads.is_word, WordReads.byte_takes, WordReads.byte_again, WordReads.names_read, WordReads.names_reread, WordReads.pusher_takes, WordReads.pusher_again, WordReads.parts_takes, WordReads.parts_again, WordReads.rows_if_takes, WordReads.rows_if_again, WordReads.HandsOver, WordReads.hand_takes, WordReads.hand_again}
 
 -- THE TOKENS OF A COMMAND
 
@@ -67,6 +67,14 @@ scan_takes (w ∷ []) t e =
     let n = byte_takes w b.0 b.1 in
     subst (SaysBy (codes "scan" ∷ w ∷ [])) (same_Some (meaning.Event (event.Scan b.0)) t b.2) (n.1, ap (λ (x : List ℕ). codes "scan" ∷ x ∷ []) n.0)
 
+exit_takes : (words : List (List ℕ)) (t : Meaning) → exit_at words ≡ Some t → SaysBy (codes "ended" ∷ words) t
+unfolding exit_at
+exit_takes (w ∷ []) t e =
+    let b = bind_some (byte_at w) (λ m. Some (meaning.Event (event.Exit m))) t e in
+    let n = byte_takes w b.0 b.1 in
+    subst (SaysBy (codes "ended" ∷ w ∷ [])) (same_Some (meaning.Event (event.Exit b.0)) t b.2) (n.1, ap (λ (x : List ℕ). codes "ended" ∷ x ∷ []) n.0)
+exit_takes _ t e = absurd cc
+
 push_takes : (words : List (List ℕ)) (t : Meaning) → push_at words ≡ Some t → SaysBy (codes "push" ∷ words) t
 unfolding push_at
 push_takes (w ∷ v ∷ []) t e =
@@ -113,6 +121,12 @@ marked_takes words t e =
     let b = bind_some (names_at words) (λ names. Some (meaning.Event (event.Marked names))) t e in
     subst (SaysBy (codes "marked" ∷ words)) (same_Some (meaning.Event (event.Marked b.0)) t b.2) (named (codes "marked") words b.0 b.1)
 
+black_takes : (words : List (List ℕ)) (t : Meaning) → black_at words ≡ Some t → SaysBy (codes "black" ∷ words) t
+unfolding black_at
+black_takes words t e =
+    let b = bind_some (names_at words) (λ names. Some (meaning.Event (event.Black names))) t e in
+    subst (SaysBy (codes "black" ∷ words)) (same_Some (meaning.Event (event.Black b.0)) t b.2) (named (codes "black") words b.0 b.1)
+
 freed_takes : (words : List (List ℕ)) (t : Meaning) → freed_at words ≡ Some t → SaysBy (codes "freed" ∷ words) t
 unfolding freed_at
 freed_takes words t e =
@@ -134,11 +148,14 @@ ending_takes word words t e = elim (chosen (bytes_eq word (codes "close")) (clos
   | inl p ↦ at_word word (codes "close") words t p.0 (close_takes words t p.1)
   | inr p ↦ elim (chosen (bytes_eq word (codes "marked")) (marked_at words) _ (Some t) p.1) [
     | inl q ↦ at_word word (codes "marked") words t q.0 (marked_takes words t q.1)
-    | inr q ↦ elim (chosen (bytes_eq word (codes "freed")) (freed_at words) _ (Some t) q.1) [
-      | inl r ↦ at_word word (codes "freed") words t r.0 (freed_takes words t r.1)
-      | inr r ↦
-          let g = guard_some (bytes_eq word (codes "stop")) (stop_at words) t r.1 in
-          at_word word (codes "stop") words t g.0 (stop_takes words t g.1)
+    | inr q ↦ elim (chosen (bytes_eq word (codes "black")) (black_at words) _ (Some t) q.1) [
+      | inl b ↦ at_word word (codes "black") words t b.0 (black_takes words t b.1)
+      | inr b ↦ elim (chosen (bytes_eq word (codes "freed")) (freed_at words) _ (Some t) b.1) [
+        | inl r ↦ at_word word (codes "freed") words t r.0 (freed_takes words t r.1)
+        | inr r ↦
+            let g = guard_some (bytes_eq word (codes "stop")) (stop_at words) t r.1 in
+            at_word word (codes "stop") words t g.0 (stop_takes words t g.1)
+      ]
     ]
   ]
 ]
@@ -158,7 +175,10 @@ plain_takes (word ∷ words) t e = elim (chosen (bytes_eq word (codes "mutators"
           | inl u ↦ at_word word (codes "take") words t u.0 (take_takes words t u.1)
           | inr u ↦ elim (chosen (bytes_eq word (codes "scan")) (scan_at words) _ (Some t) u.1) [
             | inl v ↦ at_word word (codes "scan") words t v.0 (scan_takes words t v.1)
-            | inr v ↦ ending_takes word words t v.1
+            | inr v ↦ elim (chosen (bytes_eq word (codes "ended")) (exit_at words) _ (Some t) v.1) [
+              | inl x ↦ at_word word (codes "ended") words t x.0 (exit_takes words t x.1)
+              | inr x ↦ ending_takes word words t x.1
+            ]
           ]
         ]
       ]
@@ -187,6 +207,10 @@ scan_again : (m : ℕ) → m < 256 → plain_at (codes "scan" ∷ decimal m ∷ 
 unfolding plain_at scan_at
 scan_again m lt = rw (byte_again m lt) refl
 
+exit_again : (m : ℕ) → m < 256 → plain_at (codes "ended" ∷ decimal m ∷ []) ≡ Some (meaning.Event (event.Exit m))
+unfolding plain_at exit_at
+exit_again m lt = rw (byte_again m lt) refl
+
 push_again : (who : List ℕ) (name : Name) → IsPusher who → IsName name →
     plain_at (codes "push" ∷ who ∷ name_text name ∷ []) ≡ Some (meaning.Event (event.Push name))
 unfolding plain_at push_at
@@ -213,6 +237,10 @@ marked_again : (names : List Name) → All IsName names → plain_at (codes "mar
 unfolding plain_at ending_at marked_at
 marked_again names h = rw (names_reread names h) refl
 
+black_again : (names : List Name) → All IsName names → plain_at (codes "black" ∷ names_words names) ≡ Some (meaning.Event (event.Black names))
+unfolding plain_at ending_at black_at
+black_again names h = rw (names_reread names h) refl
+
 freed_again : (names : List Name) → All IsName names → plain_at (codes "freed" ∷ names_words names) ≡ Some (meaning.Event (event.Freed names))
 unfolding plain_at ending_at freed_at
 freed_again names h = rw (names_reread names h) refl
@@ -230,7 +258,8 @@ says_by text _ h = absurd h
 
 -- tokens without a keyword can only say commands of a mutator
 module _ (words : List (List ℕ)) (none : plain_at words ≡ None) (given : (m : ℕ) (c : Command) (answer : Reply) → IsGiven words m c answer → ⊥)
-    (rows : (m : ℕ) (ws : List (List ℕ)) (commands : List Command) → m < 256 → words ≡ given_words m ws (codes "ok") → AreRows ws commands → ⊥) where
+    (rows : (m : ℕ) (ws : List (List ℕ)) (commands : List Command) → m < 256 → words ≡ given_words m ws (codes "ok") → AreRows ws commands → ⊥)
+    (hands : (k : Hand) (answer : Reply) → IsHanded words k answer → ⊥) where
   never : (t : Meaning) → plain_at words ≡ Some t → ⊥
   never t e = none-some t (sym none ∙ e)
 
@@ -243,11 +272,14 @@ module _ (words : List (List ℕ)) (none : plain_at words ≡ None) (given : (m 
       (inl (h.copying, h.valid, refl, h.commands_are))
   no_event (event.Rows m commands) (inr h) = rows m (fill_words h.filling) commands h.mutator h.words_are
       (inr (h.filling, h.valid, refl, h.commands_are))
+  no_event (event.Hand k answer) h = hands k answer h
   no_event event.Mark h = never (meaning.Event event.Mark) (at_words words (codes "mark" ∷ []) (meaning.Event event.Mark) h mark_again)
   no_event event.MarkShared h = never (meaning.Event event.MarkShared) (at_words words (codes "mark" ∷ codes "g" ∷
       []) (meaning.Event event.MarkShared) h shared_mark_again)
   no_event (event.Scan m) h = never (meaning.Event (event.Scan m)) (at_words words (codes "scan" ∷ decimal m ∷
       []) (meaning.Event (event.Scan m)) h.1 (scan_again m h.0))
+  no_event (event.Exit m) h = never (meaning.Event (event.Exit m)) (at_words words (codes "ended" ∷ decimal m ∷
+      []) (meaning.Event (event.Exit m)) h.1 (exit_again m h.0))
   no_event (event.Push name) h = never (meaning.Event (event.Push name)) (at_words words (codes "push" ∷ h.0 ∷ name_text name ∷
       []) (meaning.Event (event.Push name)) h.3 (push_again h.0 name h.1 h.2))
   no_event (event.Settle m) h = never (meaning.Event (event.Settle m)) (at_words words (codes "settle" ∷ decimal m ∷
@@ -259,6 +291,8 @@ module _ (words : List (List ℕ)) (none : plain_at words ≡ None) (given : (m 
       names_words names) (meaning.Event (event.CloseWith names)) h.1 (close_with_again names h.0))
   no_event (event.Marked names) h = never (meaning.Event (event.Marked names)) (at_words words (codes "marked" ∷
       names_words names) (meaning.Event (event.Marked names)) h.1 (marked_again names h.0))
+  no_event (event.Black names) h = never (meaning.Event (event.Black names)) (at_words words (codes "black" ∷
+      names_words names) (meaning.Event (event.Black names)) h.1 (black_again names h.0))
   no_event (event.Freed names) h = never (meaning.Event (event.Freed names)) (at_words words (codes "freed" ∷
       names_words names) (meaning.Event (event.Freed names)) h.1 (freed_again names h.0))
   no_event event.Stop h = never (meaning.Event event.Stop) (at_words words (codes "stop" ∷ []) (meaning.Event event.Stop) h stop_again)
@@ -270,13 +304,15 @@ module _ (text : List ℕ) (kept : is_blank_or_comment text ≡ false) (none : p
   -- a text that is no line of a trace
   nothing : ((m : ℕ) (c : Command) (answer : Reply) → IsGiven words m c answer → ⊥) →
       ((m : ℕ) (ws : List (List ℕ)) (commands : List Command) → m < 256 → words ≡ given_words m ws (codes "ok") → AreRows ws commands → ⊥) →
-      Says text meaning.Unknown
-  nothing given rows = record { kept = kept; mutators = no_mutators words none given rows; event = no_event words none given rows }
+      ((k : Hand) (answer : Reply) → IsHanded words k answer → ⊥) → Says text meaning.Unknown
+  nothing given rows hands =
+      record { kept = kept; mutators = no_mutators words none given rows hands; event = no_event words none given rows hands }
 
   no_parts : parts_at words ≡ None → Says text meaning.Unknown
   no_parts e = nothing
       (λ m c answer h. none-some (m, command_words c, answer) (sym e ∙ ap parts_at h.words_are ∙ parts_again m (command_words c) answer h.mutator h.reply))
       (λ m ws commands lt is h. none-some (m, ws, reply.Fine) (sym e ∙ ap parts_at is ∙ parts_again m ws reply.Fine lt tt))
+      (λ k answer h. none-some (k.giver, hand_words k, answer) (sym e ∙ ap parts_at h.words_are ∙ parts_again k.giver (hand_words k) answer h.giver h.reply))
 
   module _ (p : Given) (e : parts_at words ≡ Some p) where
     read : (p.0 < 256) × IsReply p.2 × (words ≡ given_words p.0 p.1 (reply_text p.2))
@@ -304,6 +340,17 @@ module _ (text : List ℕ) (kept : is_blank_or_comment text ≡ false) (none : p
       commands_are = h.3;
     })
 
+    a_hand : (k : Hand) → HandsOver p.0 p.1 k → SaysEvent words (event.Hand k p.2)
+    a_hand k h = record {
+      giver = subst (λ (m : ℕ). m < 256) (sym h.0) read.0;
+      value = h.1;
+      taker = h.2;
+      dest = h.3;
+      reply = read.1;
+      words_are = read.2 ∙ ap (λ (ws : List (List ℕ)). given_words p.0 ws (reply_text p.2)) h.4 ∙
+          ap (λ (m : ℕ). given_words m (hand_words k) (reply_text p.2)) (sym h.0);
+    }
+
     a_command : (c : Command) → IsCommandOf p.1 c → IsGiven words p.0 c p.2
     a_command c is = record {
       mutator = read.0;
@@ -312,23 +359,30 @@ module _ (text : List ℕ) (kept : is_blank_or_comment text ≡ false) (none : p
       words_are = read.2 ∙ ap (λ (ws : List (List ℕ)). given_words p.0 ws (reply_text p.2)) (command_said text p.0 p.1 (reply_text p.2) c read.2 is);
     }
 
-    no_command : rows_if p.2 p.1 ≡ None → ((c : Command) → IsCommandOf p.1 c → ⊥) → Says text meaning.Unknown
-    no_command no_rows never_one = nothing
+    no_command : hand_at p.0 p.1 ≡ None → rows_if p.2 p.1 ≡ None → ((c : Command) → IsCommandOf p.1 c → ⊥) → Says text meaning.Unknown
+    no_command no_hand no_rows never_one = nothing
         (λ m c answer h.
         let same : (m, command_words c, answer) ≡ p = parts_are m (command_words c) answer h.mutator h.reply h.words_are in
         never_one c (h.fits, ap (λ (q : Given). spaced q.1) (sym same)))
         (λ m ws commands lt is h.
         let same : (m, ws, reply.Fine) ≡ p = parts_are m ws reply.Fine lt tt is in
         none-some commands (sym no_rows ∙ ap (λ (q : Given). rows_if q.2 q.1) (sym same) ∙ rows_if_again ws commands h))
+        (λ k answer h.
+        let same : (k.giver, hand_words k, answer) ≡ p = parts_are k.giver (hand_words k) answer h.giver h.reply h.words_are in
+        none-some k (sym no_hand ∙ ap (λ (q : Given). hand_at q.0 q.1) (sym same) ∙ hand_again k h.value h.taker h.dest))
 
-    given_says : (t : Meaning) (o : Option (List Command)) → rows_if p.2 p.1 ≡ o → IsMeaningOfRows p.0 p.1 p.2 o t → Says text t
-    given_says t (Some commands) is h = subst (Says text) (sym h) (a_copy commands (rows_if_takes p.2 p.1 commands is))
-    given_says t None is (inl h) = subst (Says text) (sym h.1) (a_command h.0 h.2)
-    given_says t None is (inr h) = subst (Says text) (sym h.0) (no_command is h.1)
+    given_says : (t : Meaning) (o : Option (List Command)) → hand_at p.0 p.1 ≡ None → rows_if p.2 p.1 ≡ o → IsMeaningOfRows p.0 p.1 p.2 o t → Says text t
+    given_says t (Some commands) unhanded is h = subst (Says text) (sym h) (a_copy commands (rows_if_takes p.2 p.1 commands is))
+    given_says t None unhanded is (inl h) = subst (Says text) (sym h.1) (a_command h.0 h.2)
+    given_says t None unhanded is (inr h) = subst (Says text) (sym h.0) (no_command unhanded is h.1)
+
+    hand_says : (t : Meaning) (o : Option Hand) → hand_at p.0 p.1 ≡ o → IsMeaningOfHand p.0 p.1 p.2 o t → Says text t
+    hand_says t (Some k) is h = subst (Says text) (sym h) (a_hand k (hand_takes p.0 p.1 k is))
+    hand_says t None is h = given_says t (rows_if p.2 p.1) is refl h
 
   parts_say : (t : Meaning) (o : Option Given) → parts_at words ≡ o → IsMeaningOfRow o t → Says text t
   parts_say t None e h = subst (Says text) (sym h) (no_parts e)
-  parts_say t (Some p) e h = given_says p e t (rows_if p.2 p.1) refl h
+  parts_say t (Some p) e h = hand_says p e t (hand_at p.0 p.1) refl h
 
 says : (text : List ℕ) (t : Meaning) (o : Option Meaning) → is_blank_or_comment text ≡ false → plain_at (tokens_of text) ≡ o → IsMeaningBy o (tokens_of text) t → Says text t
 says text t (Some u) kept e h = subst (Says text) (sym h) (says_by text u (plain_takes (tokens_of text) u e))

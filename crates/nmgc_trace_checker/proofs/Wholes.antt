@@ -1,7 +1,8 @@
 -- A whole trace has a cycle that ends in it, and each such cycle is exact.
-use Rattle.nmgc_trace_checker.proofs.{Vocabulary.◌≡◌, Vocabulary.◌⊎◌, Vocabulary.◌+◌, Vocabulary.◌++◌, Vocabulary.ℕ, Vocabulary.refl, Vocabulary.sym, Vocabulary.ap, Vocabulary.subst, Vocabulary.arith, Vocabulary.inl, Vocabulary.inr, Vocabulary.List, Vocabulary.[], Vocabulary.◌∷◌, Vocabulary.length, Vocabulary.append_assoc, Vocabulary.length-append, Vocabulary.Command, Vocabulary.World, Vocabulary.Lists, Vocabulary.MarksName, Vocabulary.Hybrid, Vocabulary.AreScanned, Vocabulary.barrier_theorem, Vocabulary.joint_theorem, Vocabulary.some_finisher, Vocabulary.hybrid_joint, Vocabulary.some_finisher_in, Vocabulary.hybrid_safety, Vocabulary.CycleResult, Vocabulary.Watch, Vocabulary.CanAct, Vocabulary.AreDone, Vocabulary.Meaning, Vocabulary.Begun, Vocabulary.Report, Vocabulary.Comes, Vocabulary.Happens, Vocabulary.report_of, Vocabulary.Closes, Vocabulary.IsWholeReport, Markers.AtOnce, Markers.Stood, Markers.stood_at, Checkings.comes_push}
-use Rattle.nmgc_barrier_checker.specs.{declared.event.Event.Event, Watching.Can}
-use Rattle.nmgc_trace_checker.specs.Whole.{IsExact, IsExactAtOnce, IsExactLater}
+use Rattle.nmgc_trace_checker.proofs.{Vocabulary.◌≡◌, Vocabulary.◌⊎◌, Vocabulary.◌+◌, Vocabulary.◌++◌, Vocabulary.ℕ, Vocabulary.refl, Vocabulary.sym, Vocabulary.ap, Vocabulary.subst, Vocabulary.arith, Vocabulary.inl, Vocabulary.inr, Vocabulary.List, Vocabulary.[], Vocabulary.◌∷◌, Vocabulary.length, Vocabulary.append_assoc, Vocabulary.length-append, Vocabulary.Command, Vocabulary.World, Vocabulary.Lists, Vocabulary.MarksName, Vocabulary.Hybrid, Vocabulary.AreScanned, Vocabulary.hybrid_joint, Vocabulary.some_finisher_in, Vocabulary.hybrid_safety, Vocabulary.CycleResult, Vocabulary.Watch, Vocabulary.CanAct, Vocabulary.AreDone, Vocabulary.Meaning, Vocabulary.Begun, Vocabulary.Report, Vocabulary.Comes, Vocabulary.Happens, Vocabulary.report_of, Vocabulary.Closes, Vocabulary.IsWholeReport, Markers.Stood, Markers.stood_at, Checkings.comes_push}
+use Rattle.nmgc_limits.specs.declared.mutators.TheConstants.{REGISTERS}
+use Rattle.nmgc_barrier_checker.specs.{declared.event.Event.Event, Rows.emptied, Watching.Can, Watching.CanExit, Watching.CountsAsScanned}
+use Rattle.nmgc_trace_checker.specs.Whole.{IsExact}
 use Rattle.nmgc_barrier_laws.specs.Hybrid.{WatchesIn}
 use Rattle.nmgc_world_spec.specs.{Known.IsWorld, Reach.IsKept}
 use Rattle.nmgc_barrier_checker.specs.declared.event.Event.TheVariants as event
@@ -40,11 +41,23 @@ rows_stay n m (c ∷ cs) _ after h is = absurd is
 rows_marking : (n m : ℕ) (cs : List Command) (h : Hybrid) (after : Watch) → AreDone n m cs (watch.Marking h) after → IsMarking after
 rows_marking n m cs h after done = rows_stay n m cs (watch.Marking h) after done tt
 
+count_marking : (m : ℕ) (q after : Watch) → CountsAsScanned m q after → IsMarking q → IsMarking after
+count_marking m (watch.Marking h) after (inl can) is = subst IsMarking (sym can.2) tt
+count_marking m (watch.Between w) after (inl can) is = absurd is
+count_marking m (watch.Ended left) after (inl can) is = absurd is
+count_marking m watch.Stopped after (inl can) is = absurd is
+count_marking m q after (inr stays) is = subst IsMarking (sym stays.0) is
+
+exit_marking : (n m : ℕ) (h : Hybrid) (after : Watch) → CanExit n m (watch.Marking h) after → IsMarking after
+exit_marking n m h after can = count_marking m can.0 after can.2 (rows_marking n m (emptied REGISTERS) h can.0 can.1.1)
+
 -- only a close ends a cycle, and its result lists the names that the pushes and the commands keep
 kept_by : (n : ℕ) (h : Hybrid) (e : Event) (left : CycleResult) → Can n (watch.Marking h) e (watch.Ended left) → Lists (MarksName h.watch) left.kept
 kept_by n h (event.Given m c answer) left can = absurd (not_marking left can.0 can.2)
 kept_by n h (event.Rows m commands) left can = absurd (rows_marking n m commands h (watch.Ended left) can.1)
 kept_by n h (event.Scan m) left can = absurd (not_marking left can.0 can.2)
+kept_by n h (event.Hand k answer) left can = absurd (not_marking left can.0 can.3)
+kept_by n h (event.Exit m) left can = absurd (exit_marking n m h (watch.Ended left) can)
 kept_by n h (event.Push name) left can = absurd (not_marking left (record h { watch = can.0 }) can.2)
 kept_by n h (event.Settle m) left can = absurd (not_marking left h can.1)
 kept_by n h (event.Take name) left can = absurd (not_marking left (record h { watch = can.0 }) can.2)
@@ -57,6 +70,8 @@ paid_by : (n : ℕ) (h : Hybrid) (e : Event) (left : CycleResult) → Can n (wat
 paid_by n h (event.Given m c answer) left can = absurd (not_marking left can.0 can.2)
 paid_by n h (event.Rows m commands) left can = absurd (rows_marking n m commands h (watch.Ended left) can.1)
 paid_by n h (event.Scan m) left can = absurd (not_marking left can.0 can.2)
+paid_by n h (event.Hand k answer) left can = absurd (not_marking left can.0 can.3)
+paid_by n h (event.Exit m) left can = absurd (exit_marking n m h (watch.Ended left) can)
 paid_by n h (event.Push name) left can = absurd (not_marking left (record h { watch = can.0 }) can.2)
 paid_by n h (event.Settle m) left can = absurd (not_marking left h can.1)
 paid_by n h (event.Take name) left can = absurd (not_marking left (record h { watch = can.0 }) can.2)
@@ -69,6 +84,8 @@ scanned_by : (n : ℕ) (h : Hybrid) (e : Event) (left : CycleResult) → Can n (
 scanned_by n h (event.Given m c answer) left can = absurd (not_marking left can.0 can.2)
 scanned_by n h (event.Rows m commands) left can = absurd (rows_marking n m commands h (watch.Ended left) can.1)
 scanned_by n h (event.Scan m) left can = absurd (not_marking left can.0 can.2)
+scanned_by n h (event.Hand k answer) left can = absurd (not_marking left can.0 can.3)
+scanned_by n h (event.Exit m) left can = absurd (exit_marking n m h (watch.Ended left) can)
 scanned_by n h (event.Push name) left can = absurd (not_marking left (record h { watch = can.0 }) can.2)
 scanned_by n h (event.Settle m) left can = absurd (not_marking left h can.1)
 scanned_by n h (event.Take name) left can = absurd (not_marking left (record h { watch = can.0 }) can.2)
@@ -77,21 +94,8 @@ scanned_by n h (event.CloseWith dead) left can = can.3
 scanned_by n h _ left can = absurd can
 
 module _ (h : Hybrid) (left : CycleResult) (w : World) (is : IsWorld w) (paid : h.watch.debts ≡ []) (kept : Lists (MarksName h.watch) left.kept) where
-  at_once : AtOnce w h → IsExactAtOnce h.watch left
-  at_once a = record {
-    begins = w;
-    is_world = is;
-    watches = a.watches;
-    marker = some_finisher w is h.watch a.watches;
-    ends = λ s b done. joint_theorem w is h.watch a.watches paid s b done;
-    marks = λ s next b possible closing name. (
-      λ m. kept.complete name (((barrier_theorem w is h.watch s b).marks next possible closing name).0 m),
-      λ k. ((barrier_theorem w is h.watch s b).marks next possible closing name).1 (kept.sound name k),
-    );
-  }
-
-  later : WatchesIn w h → AreScanned h → IsExactLater h left
-  later watches scanned = record {
+  ends_exact : WatchesIn w h → AreScanned h → IsExact h left
+  ends_exact watches scanned = record {
     begins = w;
     is_world = is;
     watches = watches;
@@ -108,10 +112,7 @@ exact lines h left c =
     let t : Stood h = stood_at c.earlier h c.comes in
     let paid : h.watch.debts ≡ [] = paid_by (length c.earlier + 1) h c.close left c.ends in
     let kept : Lists (MarksName h.watch) left.kept = kept_by (length c.earlier + 1) h c.close left c.ends in
-    elim t.watches [
-      | inl a ↦ inl (at_once h left t.begins t.is paid kept a)
-      | inr b ↦ inr (later h left t.begins t.is paid kept b (scanned_by (length c.earlier + 1) h c.close left c.ends))
-    ]
+    ends_exact h left t.begins t.is paid kept t.watches (scanned_by (length c.earlier + 1) h c.close left c.ends)
 
 -- A CYCLE THAT ENDS
 
@@ -136,10 +137,21 @@ rows_between n m (c ∷ cs) w after h over =
     let D : Watch → Type 0 = λ q. AreDone n m cs q after in
     rows_between n m cs h.1.0 after (subst D h.1.2 h.2) over
 
+-- a mutator that counts as scanned ends no cycle
+over_before : (m : ℕ) (q after : Watch) → CountsAsScanned m q after → IsOver (begun.Watching after) → IsOver (begun.Watching q)
+over_before m (watch.Marking h) after (inl can) over = subst (λ (x : Watch). IsOver (begun.Watching x)) can.2 over
+over_before m (watch.Between w) after (inl can) over = absurd can
+over_before m (watch.Ended left) after (inl can) over = tt
+over_before m watch.Stopped after (inl can) over = tt
+over_before m q after (inr stays) over = subst (λ (x : Watch). IsOver (begun.Watching x)) stays.0 over
+
 -- before the first cycle no event ends a cycle
 not_over : (n : ℕ) (w : World) (e : Event) (after : Watch) → Can n (watch.Between w) e after → IsOver (begun.Watching after) → ⊥
 not_over n w (event.Given m c answer) after can over = subst (λ (q : Watch). IsOver (begun.Watching q)) can.2 over
 not_over n w (event.Rows m commands) after can over = rows_between n m commands w after can.1 over
+not_over n w (event.Hand k answer) after can over = subst (λ (q : Watch). IsOver (begun.Watching q)) can.2 over
+not_over n w (event.Exit m) after can over =
+    rows_between n m (emptied REGISTERS) w can.0 can.1.1 (over_before m can.0 after can.2 over)
 not_over n w event.Mark after can over = subst (λ (q : Watch). IsOver (begun.Watching q)) can over
 not_over n w event.MarkShared after can over = subst (λ (q : Watch). IsOver (begun.Watching q)) can over
 not_over n w _ after can over = can
@@ -149,6 +161,8 @@ not_stopped : (n : ℕ) (h : Hybrid) (e : Event) → Can n (watch.Marking h) e w
 not_stopped n h (event.Given m c answer) can = stopped_marking can.0 can.2
 not_stopped n h (event.Rows m commands) can = rows_marking n m commands h watch.Stopped can.1
 not_stopped n h (event.Scan m) can = stopped_marking can.0 can.2
+not_stopped n h (event.Hand k answer) can = stopped_marking can.0 can.3
+not_stopped n h (event.Exit m) can = exit_marking n m h watch.Stopped can
 not_stopped n h (event.Push name) can = stopped_marking (record h { watch = can.0 }) can.2
 not_stopped n h (event.Settle m) can = stopped_marking h can.1
 not_stopped n h (event.Take name) can = stopped_marking (record h { watch = can.0 }) can.2

@@ -1,6 +1,8 @@
 -- Tokens are read as they are spelled, and in no other way.
 use Rattle.nmgc_trace_checker.proofs.Vocabulary.{◌≡◌, ◌<◌, ◌≤◌, ◌+◌, ◌-◌, ◌%◌, ◌^◌, ◌⊎◌, ℕ, List, [], ◌∷◌, ◌++◌, map, length, refl, sym, ap, subst, ◌∙◌, arith, inl, inr, Bool, true, false, eqb, decimal, codes, Option, Some, None, ◌&&◌, All, AllByRecursion, bytes_eq, cases_Bool, cond-true, cond-false, eqb-true, ne_eqb, decimal_by_steps, decimal_nonempty, All-from_recursion, recursion_from_All, same_Some, none-some, bytes_eq-Decides, REGISTERS, SHARED_MAKER, Name, Value, Operand, Command, Reply, IsRegister, IsOperand, IsName, register_word, operand_word, name_text, value_text, reply_text, IsValue, ◌>>=◌, number_at, dotted_at, name_at, value_at, Reads, bind_some, guard_some, number_takes, number_again, name_reads, value_reads, chosen, Copying, Filling, copied, filled, byte_at, short_at, register_at, operand_at, each_at, no_names_at, names_at, pusher_at, done_at, refused_at, nothing_at, or_else, reply_at, onto_command, answered_at, parts_at, place_at, span_at, copying_of, copy_at, copying_at, fill_at, filling_at, rows_at, rows_if, IsReply, given_words, copy_words, IsCopying, fill_words, IsFilling, IsPusher, names_words}
 use Rattle.nmgc_world_spec.specs.declared.value.Value.TheVariants as value
+use Rattle.nmgc_barrier_checker.specs.declared.hand.Hand.{Hand}
+use Rattle.nmgc_trace_checker.specs.{Reading.hand_words_at, Reading.hand_at, Said.hand_words}
 use Rattle.nmgc_world_spec.specs.declared.command.Operand.TheVariants as operand
 use Rattle.nmgc_world_spec.specs.declared.command.Reply.TheVariants as reply
 
@@ -494,3 +496,42 @@ rows_if_takes answer words commands e = absurd cc
 
 pub rows_if_again : (words : List (List ℕ)) (commands : List Command) → AreRows words commands → rows_if reply.Fine words ≡ Some commands
 rows_if_again words commands h = rows_again words commands h
+
+-- VALUES HANDED OVER
+
+-- a value that these tokens after `hand` hand over
+abbrev TakesHand : ℕ → List (List ℕ) → Hand → Type 0
+TakesHand m words k = (k.giver ≡ m) × IsOperand k.value × (k.taker < 256) × IsRegister k.dest × (codes "hand" ∷ words ≡ hand_words k)
+
+hand_words_takes : (m : ℕ) (words : List (List ℕ)) (k : Hand) → hand_words_at m words ≡ Some k → TakesHand m words k
+unfolding hand_words_at
+hand_words_takes m (val ∷ taker ∷ dest ∷ []) k e =
+    let v = bind_some (operand_at val) _ k e in
+    let n = bind_some (byte_at taker) _ k v.2 in
+    let r = bind_some (register_at dest) _ k n.2 in
+    let tv = operand_reads.takes val v.0 v.1 in
+    let tn = byte_takes taker n.0 n.1 in
+    let tr = register_reads.takes dest r.0 r.1 in
+    let a : val ≡ operand_word v.0 = tv.0 in
+    let b : taker ≡ decimal n.0 = tn.0 in
+    let c : dest ≡ register_word r.0 = tr.0 in
+    let whole : codes "hand" ∷ val ∷ taker ∷ dest ∷ [] ≡ codes "hand" ∷ operand_word v.0 ∷ decimal n.0 ∷ register_word r.0 ∷ [] = cc in
+    subst (TakesHand m (val ∷ taker ∷ dest ∷ [])) (same_Some (record { giver = m; value = v.0; taker = n.0; dest = r.0 }) k r.2)
+    (refl, tv.1, tn.1, tr.1, whole)
+hand_words_takes m words k e = absurd cc
+
+-- a value that these tokens hand over
+abbrev pub HandsOver : ℕ → List (List ℕ) → Hand → Type 0
+HandsOver m words k = (k.giver ≡ m) × IsOperand k.value × (k.taker < 256) × IsRegister k.dest × (words ≡ hand_words k)
+
+pub hand_takes : (m : ℕ) (words : List (List ℕ)) (k : Hand) → hand_at m words ≡ Some k → HandsOver m words k
+unfolding hand_at
+hand_takes m [] k e = absurd cc
+hand_takes m (verb ∷ words) k e =
+    let g = guard_some (bytes_eq verb (codes "hand")) (hand_words_at m words) k e in
+    let t : TakesHand m words k = hand_words_takes m words k g.1 in
+    (t.0, t.1, t.2, t.3, ap (λ (w : List ℕ). w ∷ words) (is_word verb (codes "hand") g.0) ∙ t.4)
+
+pub hand_again : (k : Hand) → IsOperand k.value → k.taker < 256 → IsRegister k.dest → hand_at k.giver (hand_words k) ≡ Some k
+unfolding hand_at hand_words_at
+hand_again k v lt d = rw (operand_reads.again k.value v, byte_again k.taker lt, register_reads.again k.dest d) refl

@@ -33,11 +33,12 @@ is_refused_there v = false
 abbrev pub no_counts : Counts
 no_counts = record { cycles = 0; commands = 0; pushes = 0 }
 
--- the counts after an event. A close adds a cycle. A command, a copy or a fill adds a command. A push adds a push. Each count
--- stops at 2^64 - 1
+-- the counts after an event. A close adds a cycle. A command, a copy, a fill, or a value handed over adds a command. A push
+-- adds a push. Each count stops at 2^64 - 1
 abbrev pub with_event : Counts → Event → Counts
 with_event c (event.Given m k answer) = record c { commands = next c.commands }
 with_event c (event.Rows m ks) = record c { commands = next c.commands }
+with_event c (event.Hand k answer) = record c { commands = next c.commands }
 with_event c (event.Push name) = record c { pushes = next c.pushes }
 with_event c event.Close = record c { cycles = next c.cycles }
 with_event c (event.CloseWith names) = record c { cycles = next c.cycles }

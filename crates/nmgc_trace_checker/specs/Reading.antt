@@ -7,7 +7,7 @@ use Rattle.nmgc_world_spec.specs.declared.command.Operand.TheVariants as operand
 use Rattle.nmgc_world_spec.specs.declared.command.Reply.TheVariants as reply
 use Rattle.nmgc_snapshot_laws.specs.declared.event.Event.TheVariants as core
 use Rattle.nmgc_barrier_checker.specs.declared.event.Event.TheVariants as event
-use Rattle.nmgc_barrier_checker.specs.{declared.rows.Copying.Copying, declared.rows.Filling.Filling, Rows.copied, Rows.filled}
+use Rattle.nmgc_barrier_checker.specs.{declared.hand.Hand.Hand, declared.rows.Copying.Copying, declared.rows.Filling.Filling, Rows.copied, Rows.filled}
 use Rattle.nmgc_lists.specs.declared.memory.NoMemory.{NoMemory}
 use Rattle.nmgc_io.specs.Text.{spaced}
 use Rattle.nmgc_script.specs.{declared.fault.ScriptFault.ScriptFault, declared.script.Script.Script, Spelling.command_words}
@@ -227,6 +227,22 @@ abbrev pub rows_if : Reply → List (List ℕ) → Option (List Command)
 rows_if reply.Fine words = rows_at words
 rows_if answer words = None
 
+-- VALUES HANDED OVER
+
+-- the value that a mutator hands over, as the tokens after `hand` spell it
+unfoldable pub hand_words_at : ℕ → List (List ℕ) → Option Hand
+hand_words_at m (val ∷ taker ∷ dest ∷ []) = do
+  v ← operand_at val
+  n ← byte_at taker
+  r ← register_at dest
+  Some (record { giver = m; value = v; taker = n; dest = r })
+hand_words_at m words = None
+
+-- the value that a mutator hands over by these tokens
+unfoldable pub hand_at : ℕ → List (List ℕ) → Option Hand
+hand_at m [] = None
+hand_at m (verb ∷ words) = if bytes_eq verb (codes "hand") then hand_words_at m words else None
+
 -- FORMAT 2, EXCEPT COMMANDS
 
 unfoldable pub mutators_at : List (List ℕ) → Option Meaning
@@ -257,6 +273,10 @@ unfoldable pub scan_at : List (List ℕ) → Option Meaning
 scan_at (mutator ∷ []) = byte_at mutator >>= λ m. Some (meaning.Event (event.Scan m))
 scan_at words = None
 
+unfoldable pub exit_at : List (List ℕ) → Option Meaning
+exit_at (mutator ∷ []) = byte_at mutator >>= λ m. Some (meaning.Event (event.Exit m))
+exit_at words = None
+
 unfoldable pub take_at : List (List ℕ) → Option Meaning
 take_at (name ∷ []) = name_at name >>= λ n. Some (meaning.Event (event.Take n))
 take_at words = None
@@ -267,6 +287,9 @@ close_at (word ∷ words) = names_at (word ∷ words) >>= λ names. Some (meanin
 
 unfoldable pub marked_at : List (List ℕ) → Option Meaning
 marked_at words = names_at words >>= λ names. Some (meaning.Event (event.Marked names))
+
+unfoldable pub black_at : List (List ℕ) → Option Meaning
+black_at words = names_at words >>= λ names. Some (meaning.Event (event.Black names))
 
 unfoldable pub freed_at : List (List ℕ) → Option Meaning
 freed_at words = names_at words >>= λ names. Some (meaning.Event (event.Freed names))
@@ -280,6 +303,7 @@ unfoldable pub ending_at : List ℕ → List (List ℕ) → Option Meaning
 ending_at word words =
     if bytes_eq word (codes "close") then close_at words
     else if bytes_eq word (codes "marked") then marked_at words
+    else if bytes_eq word (codes "black") then black_at words
     else if bytes_eq word (codes "freed") then freed_at words
     else if bytes_eq word (codes "stop") then stop_at words
     else None
@@ -294,6 +318,7 @@ plain_at (word ∷ words) =
     else if bytes_eq word (codes "settle") then settle_at words
     else if bytes_eq word (codes "take") then take_at words
     else if bytes_eq word (codes "scan") then scan_at words
+    else if bytes_eq word (codes "ended") then exit_at words
     else ending_at word words
 
 -- THE MEANING OF A LINE OF FORMAT 2
@@ -308,9 +333,14 @@ abbrev pub IsMeaningOfRows : ℕ → List (List ℕ) → Reply → Option (List 
 IsMeaningOfRows m words answer (Some commands) t = t ≡ meaning.Event (event.Rows m commands)
 IsMeaningOfRows m words answer None t = IsMeaningOfCommand m words answer t
 
--- the meaning of a line by its parts: commands of a mutator, or no line of a trace if there are no parts
+-- the meaning of a line with a mutator: a value handed over, or else commands
+abbrev pub IsMeaningOfHand : ℕ → List (List ℕ) → Reply → Option Hand → Meaning → Type 0
+IsMeaningOfHand m words answer (Some k) t = t ≡ meaning.Event (event.Hand k answer)
+IsMeaningOfHand m words answer None t = IsMeaningOfRows m words answer (rows_if answer words) t
+
+-- the meaning of a line by its parts: a value handed over or commands, or no line of a trace if there are no parts
 abbrev pub IsMeaningOfRow : Option (ℕ × List (List ℕ) × Reply) → Meaning → Type 0
-IsMeaningOfRow (Some p) t = IsMeaningOfRows p.0 p.1 p.2 (rows_if p.2 p.1) t
+IsMeaningOfRow (Some p) t = IsMeaningOfHand p.0 p.1 p.2 (hand_at p.0 p.1) t
 IsMeaningOfRow None t = t ≡ meaning.Unknown
 
 -- the meaning of a line by its keyword or, without a keyword, as commands of a mutator

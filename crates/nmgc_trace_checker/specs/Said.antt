@@ -5,7 +5,7 @@ use Rattle.nmgc_world_spec.specs.{declared.value.Name.Name, declared.command.Com
 use Rattle.nmgc_world_spec.specs.declared.command.Reply.TheVariants as reply
 use Rattle.nmgc_snapshot_laws.specs.declared.event.Event.{Event as CoreEvent}
 use Rattle.nmgc_snapshot_laws.specs.declared.event.Event.TheVariants as core
-use Rattle.nmgc_barrier_checker.specs.{declared.event.Event.Event, declared.rows.Copying.Copying, declared.rows.Filling.Filling, Rows.copied, Rows.filled}
+use Rattle.nmgc_barrier_checker.specs.{declared.event.Event.Event, declared.hand.Hand.Hand, declared.rows.Copying.Copying, declared.rows.Filling.Filling, Rows.copied, Rows.filled}
 use Rattle.nmgc_barrier_checker.specs.declared.event.Event.TheVariants as event
 use Rattle.nmgc_object.specs.Words.{IsName}
 use Rattle.nmgc_io.specs.Text.{lines_of, tokens_of, is_blank_or_comment}
@@ -100,6 +100,19 @@ pub record IsFilled (words : List (List ℕ)) (m : ℕ) (commands : List Command
   pub words_are : words ≡ given_words m (fill_words filling) (codes "ok")
   pub commands_are : commands ≡ filled filling filling.count
 
+-- the tokens of a value that is handed over, after its mutator
+abbrev pub hand_words : Hand → List (List ℕ)
+hand_words k = codes "hand" ∷ operand_word k.value ∷ decimal k.taker ∷ register_word k.dest ∷ []
+
+-- tokens that say a value that is handed over, and an answer
+pub record IsHanded (words : List (List ℕ)) (k : Hand) (answer : Reply) : Type 0 where
+  pub giver : k.giver < 256
+  pub value : IsOperand k.value
+  pub taker : k.taker < 256
+  pub dest : IsRegister k.dest
+  pub reply : IsReply answer
+  pub words_are : words ≡ given_words k.giver (hand_words k) (reply_text answer)
+
 -- the token of a pusher: a mutator, or a hyphen for the collector itself
 abbrev pub IsPusher : List ℕ → Type 0
 IsPusher who = (who ≡ codes "-") ⊎ ((m : ℕ) × (m < 256) × (who ≡ decimal m))
@@ -119,15 +132,18 @@ AreNames words word names = All IsName names × (words ≡ word ∷ names_words 
 abbrev pub SaysEvent : List (List ℕ) → Event → Type 0
 SaysEvent words (event.Given m c answer) = IsGiven words m c answer
 SaysEvent words (event.Rows m commands) = IsCopied words m commands ⊎ IsFilled words m commands
+SaysEvent words (event.Hand k answer) = IsHanded words k answer
 SaysEvent words event.Mark = words ≡ codes "mark" ∷ []
 SaysEvent words event.MarkShared = words ≡ codes "mark" ∷ codes "g" ∷ []
 SaysEvent words (event.Scan m) = (m < 256) × (words ≡ codes "scan" ∷ decimal m ∷ [])
+SaysEvent words (event.Exit m) = (m < 256) × (words ≡ codes "ended" ∷ decimal m ∷ [])
 SaysEvent words (event.Push name) = (who : List ℕ) × IsPusher who × IsName name × (words ≡ codes "push" ∷ who ∷ name_text name ∷ [])
 SaysEvent words (event.Settle m) = (m < 256) × (words ≡ codes "settle" ∷ decimal m ∷ [])
 SaysEvent words (event.Take name) = IsName name × (words ≡ codes "take" ∷ name_text name ∷ [])
 SaysEvent words event.Close = words ≡ codes "close" ∷ []
 SaysEvent words (event.CloseWith names) = AreNames words (codes "close") names
 SaysEvent words (event.Marked names) = AreNames words (codes "marked") names
+SaysEvent words (event.Black names) = AreNames words (codes "black") names
 SaysEvent words (event.Freed names) = AreNames words (codes "freed") names
 SaysEvent words event.Stop = words ≡ codes "stop" ∷ []
 

@@ -13,7 +13,7 @@ use nmgc_lists::NoMemory;
 pub struct Counts {
     /// Cycles that have ended.
     pub cycles: u64,
-    /// Commands, in cycles and outside; a copy or a fill is one command.
+    /// Commands, in cycles and outside. A copy, a fill, or a value handed over is one command.
     pub commands: u64,
     /// Pushes, due or not.
     pub pushes: u64,
@@ -35,7 +35,7 @@ impl Counts {
         ensures { self.new ≡ with_event self.old event.now }
     {
         match event {
-            Event::Given { .. } | Event::Rows { .. } => self.commands = self
+            Event::Given { .. } | Event::Rows { .. } | Event::Hand { .. } => self.commands = self
                 .commands
                 .saturating_add(1),
             Event::Push { .. } => self.pushes = self.pushes.saturating_add(1),
@@ -43,9 +43,11 @@ impl Counts {
             Event::Mark
             | Event::MarkShared
             | Event::Scan { .. }
+            | Event::Exit { .. }
             | Event::Settle { .. }
             | Event::Take { .. }
             | Event::Marked { .. }
+            | Event::Black { .. }
             | Event::Freed { .. }
             | Event::Stop => {}
         }

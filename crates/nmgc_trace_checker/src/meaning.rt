@@ -1,14 +1,14 @@
 //! The meaning of a line of format 2. Commands, answers and names are spelled as in format 1 (`line`). A push has the pushed
 //! name. There is no marker: no line scans an object or drains. A take only reports a name that the runtime's own marker took,
-//! and `scan` only that a mutator's registers are read.
+//! `scan` only that a mutator's registers are read, and `ended` that they are gone.
 ghost use Rattle.std.specs.Prelude.{◌≡◌, map, IfOk};
-ghost use Rattle.nmgc_trace_checker.specs.Reading.{shared_mark_at, scan_at, short_at, place_at, span_at, copying_of, copy_at, copying_at, fill_at, filling_at, rows_at, rows_if, mutators_at, mark_at, push_at, settle_at, take_at, close_at, marked_at, freed_at, stop_at, ending_at, plain_at, parts_at, IsMeaningBy, IsMeaningOfRow};
+ghost use Rattle.nmgc_trace_checker.specs.Reading.{shared_mark_at, scan_at, exit_at, black_at, short_at, place_at, span_at, copying_of, copy_at, copying_at, fill_at, filling_at, hand_words_at, hand_at, rows_at, rows_if, mutators_at, mark_at, push_at, settle_at, take_at, close_at, marked_at, freed_at, stop_at, ending_at, plain_at, parts_at, IsMeaningBy, IsMeaningOfRow, IsMeaningOfRows};
 ghost use Rattle.nmgc_trace_checker.specs.Said.{Says};
 
 use crate::commands::{command, parts};
 use crate::tokens::{byte, names, operand, pusher, register, short};
 use nmgc_barrier_checker::rows::{copy_commands, fill_commands};
-use nmgc_barrier_checker::{Copying, Event, Filling};
+use nmgc_barrier_checker::{Copying, Event, Filling, Hand};
 use nmgc_io::{cut_tokens, is_blank_or_comment};
 use nmgc_journal::read_name;
 use nmgc_lists::{List, NoMemory};
@@ -79,10 +79,13 @@ fn keyword_meaning(alloc: Global, words: &[&[u8]]) -> Result<Option<Meaning>, No
     if *word == b"scan".as_slice() {
         return Ok(scan_meaning(rest));
     }
+    if *word == b"ended".as_slice() {
+        return Ok(exit_meaning(rest));
+    }
     ending_meaning(alloc, word, rest)
 }
 
-// Returns the meaning of a line that begins with `close`, `marked`, `freed` or `stop`, or `None` for any other line.
+// Returns the meaning of a line that begins with `close`, `marked`, `black`, `freed` or `stop`, or `None` for any other line.
 #[tactic(auto, unfolding(crate::specs::Reading::ending_at))]
 fn ending_meaning(alloc: Global, word: &[u8], rest: &[&[u8]]) -> Result<Option<Meaning>, NoMemory>
     ensures { IfOk result (λ meaning. meaning ≡ ending_at word.now (map (λ w. w.now) rest.now)) }
@@ -92,6 +95,9 @@ fn ending_meaning(alloc: Global, word: &[u8], rest: &[&[u8]]) -> Result<Option<M
     }
     if word == b"marked".as_slice() {
         return marked_meaning(alloc, rest);
+    }
+    if word == b"black".as_slice() {
+        return black_meaning(alloc, rest);
     }
     if word == b"freed".as_slice() {
         return freed_meaning(alloc, rest);
@@ -148,6 +154,18 @@ fn scan_meaning(words: &[&[u8]]) -> Option<Meaning>
     };
     let mutator = byte(mutator)?;
     Some(Meaning::Event(Event::Scan { mutator }))
+}
+
+// Returns the end of the mutator whose number the one token after `ended` spells, or `None` for any other tokens.
+#[tactic(auto, unfolding(crate::specs::Reading::exit_at))]
+fn exit_meaning(words: &[&[u8]]) -> Option<Meaning>
+    ensures { result ≡ exit_at (map (λ w. w.now) words.now) }
+{
+    let [mutator] = words else {
+        return None;
+    };
+    let mutator = byte(mutator)?;
+    Some(Meaning::Event(Event::Exit { mutator }))
 }
 
 // Returns the push that the tokens `WHO NAME` after `push` spell, or `None`. Only the name is in the event, not the pusher.
@@ -212,6 +230,17 @@ fn marked_meaning(alloc: Global, words: &[&[u8]]) -> Result<Option<Meaning>, NoM
     Ok(Some(Meaning::Event(Event::Marked { names })))
 }
 
+// Returns the report of marked names that the tokens after `black` spell, or `None`. Names made since `mark` may be there.
+#[tactic(auto, unfolding(crate::specs::Reading::black_at))]
+fn black_meaning(alloc: Global, words: &[&[u8]]) -> Result<Option<Meaning>, NoMemory>
+    ensures { IfOk result (λ meaning. meaning ≡ black_at (map (λ w. w.now) words.now)) }
+{
+    let Some(names) = names(alloc, words)? else {
+        return Ok(None);
+    };
+    Ok(Some(Meaning::Event(Event::Black { names })))
+}
+
 // Returns the report of freed names that the tokens after `freed` spell, or `None`.
 #[tactic(auto, unfolding(crate::specs::Reading::freed_at))]
 fn freed_meaning(alloc: Global, words: &[&[u8]]) -> Result<Option<Meaning>, NoMemory>
@@ -241,6 +270,22 @@ fn mutator_meaning(alloc: Global, words: &[&[u8]]) -> Result<Meaning, NoMemory>
     let Some((mutator, words, answer)) = parts(words) else {
         return Ok(Meaning::Unknown);
     };
+    if let Some(hand) = hand(mutator, words) {
+        return Ok(Meaning::Event(Event::Hand { hand, answer }));
+    }
+    let meaning = commands_meaning(alloc, mutator, words, answer)?;
+    Ok(meaning)
+}
+
+// Returns the meaning of a mutator's tokens with their answer: the commands of a copy or a fill, a command, or `Unknown`.
+fn commands_meaning(
+    alloc: Global,
+    mutator: u8,
+    words: &[&[u8]],
+    answer: Reply,
+) -> Result<Meaning, NoMemory>
+    ensures { IfOk result (IsMeaningOfRows mutator (map (λ w. w.now) words.now) answer (rows_if answer (map (λ w. w.now) words.now))) }
+{
     if let Some(commands) = rows_if(alloc, answer, words)? {
         return Ok(Meaning::Event(Event::Rows { mutator, commands }));
     }
@@ -252,6 +297,39 @@ fn mutator_meaning(alloc: Global, words: &[&[u8]]) -> Result<Meaning, NoMemory>
         })),
         None => Ok(Meaning::Unknown),
     }
+}
+
+// Returns the value that a mutator hands over by these tokens, or `None`.
+#[tactic(auto, unfolding(crate::specs::Reading::hand_at))]
+fn hand(mutator: u8, words: &[&[u8]]) -> Option<Hand>
+    ensures { result ≡ hand_at mutator (map (λ w. w.now) words.now) }
+{
+    let [verb, rest @ ..] = words else {
+        return None;
+    };
+    if *verb != b"hand".as_slice() {
+        return None;
+    }
+    hand_of(mutator, rest)
+}
+
+// Returns the value that a mutator hands over by the three tokens after `hand` (value, mutator, register), or `None`.
+#[tactic(auto, unfolding(crate::specs::Reading::hand_words_at))]
+fn hand_of(mutator: u8, words: &[&[u8]]) -> Option<Hand>
+    ensures { result ≡ hand_words_at mutator (map (λ w. w.now) words.now) }
+{
+    let [value, taker, dest] = words else {
+        return None;
+    };
+    let value = operand(value)?;
+    let taker = byte(taker)?;
+    let dest = register(dest)?;
+    Some(Hand {
+        giver: mutator,
+        value,
+        taker,
+        dest,
+    })
 }
 
 // Returns the commands of the copy or the fill that tokens spell, or `None`; also `None` if the answer isn't `Fine`.

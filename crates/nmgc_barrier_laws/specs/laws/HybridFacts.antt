@@ -147,29 +147,34 @@ module _ (s : State) (f : Facts s) (names : List Name) (lists : List (List Name)
       finalised = λ weak target parts c alive kept. safe_on target (f.finalised weak target parts c alive kept);
     }
 
--- other registers are shown, with names that may be held
-module _ (s : State) (a b : ℕ → Bool) (f : Facts (veiled a s))
-    (holds : (k : ℕ) → b k ≡ true → All (Names (MayHold s)) (state_of s.world k).registers) where
-  nodes : (n : Name) → node_of (hidden b s.world) n ≡ node_of (hidden a s.world) n
-  nodes n = hidden_node b s.world n ∙ sym (hidden_node a s.world n)
+-- other registers are shown, with names that may be held. The world may have other registers, too
+module _ (s : State) (a b : ℕ → Bool) (u : World) (same_nodes : (n : Name) → node_of u n ≡ node_of s.world n)
+    (same_count : length u.mutators ≡ length s.world.mutators) (same_serials : (k : ℕ) → serial_of u k ≡ serial_of s.world k)
+    (same_queues : (k : ℕ) → (state_of u k).queue ≡ (state_of s.world k).queue) (f : Facts (veiled a s))
+    (holds : (k : ℕ) → b k ≡ true → All (Names (MayHold s)) (state_of u k).registers) where
+  abbrev moved : State
+  moved = record s { world = hidden b u }
 
-  count : length (hidden b s.world).mutators ≡ length (hidden a s.world).mutators
-  count = hide_length b s.world.mutators ∙ sym (hide_length a s.world.mutators)
+  nodes : (n : Name) → node_of (hidden b u) n ≡ node_of (hidden a s.world) n
+  nodes n = hidden_node b u n ∙ same_nodes n ∙ sym (hidden_node a s.world n)
 
-  back : (n target : Name) → RefersTo (hidden b s.world) n target → RefersTo (hidden a s.world) n target
+  count : length (hidden b u).mutators ≡ length (hidden a s.world).mutators
+  count = hide_length b u.mutators ∙ same_count ∙ sym (hide_length a s.world.mutators)
+
+  back : (n target : Name) → RefersTo (hidden b u) n target → RefersTo (hidden a s.world) n target
   back n target r = (r.0, sym (nodes n) ∙ r.1, r.2)
 
-  shown_base : Base (veiled b s)
-  shown_base = record {
+  moved_base : Base moved
+  moved_base = record {
     snapshot = f.base.snapshot;
     mutators = count ∙ f.base.mutators;
     serials = λ k. let x = f.base.serials k in subst (λ (n : ℕ). serial_of s.snapshot k ≤ n)
-        (hidden_serial a s.world k ∙ sym (hidden_serial b s.world k)) x;
+        (hidden_serial a s.world k ∙ sym (same_serials k) ∙ sym (hidden_serial b u k)) x;
     owed_lists = f.base.owed_lists ∙ sym count;
     pushed_lists = f.base.pushed_lists ∙ sym count;
     holds = record {
-      registers = λ k. hidden_names (MayHold s) b s.world k (holds k);
-      queues = λ k. subst (All (Names (MayHold s))) (hidden_queue a s.world k ∙ sym (hidden_queue b s.world k)) (f.base.holds.queues k);
+      registers = λ k. hidden_names (MayHold s) b u k (holds k);
+      queues = λ k. subst (All (Names (MayHold s))) (hidden_queue a s.world k ∙ sym (same_queues k) ∙ sym (hidden_queue b u k)) (f.base.holds.queues k);
       fields = λ n may. subst (λ (o : Option Node). IfSome o (Fields (Names (MayHold s)))) (sym (nodes n)) (f.base.holds.fields n may);
     };
     fields = λ n target r. f.base.fields n target (back n target r);
@@ -184,25 +189,30 @@ module _ (s : State) (a b : ℕ → Bool) (f : Facts (veiled a s))
     passed = f.base.passed;
   }
 
-  same_safe : (n : Name) → IsSafe (veiled a s) n → IsSafe (veiled b s) n
+  same_safe : (n : Name) → IsSafe (veiled a s) n → IsSafe moved n
   same_safe n (marked c) = marked c
   same_safe n (owed k c) = owed k c
   same_safe n (pushed k c) = pushed k c
 
-  same_ahead : (n : Name) (i : ℕ) → IsAhead (veiled a s) n i → IsAhead (veiled b s) n i
+  same_ahead : (n : Name) (i : ℕ) → IsAhead (veiled a s) n i → IsAhead moved n i
   same_ahead n i (unmarked c) = unmarked c
   same_ahead n i (queued entry c e le) = queued entry c e le
 
-  same_kept : (n : Name) (i : ℕ) (target : Name) → Kept (veiled a s) n i target → Kept (veiled b s) n i target
+  same_kept : (n : Name) (i : ℕ) (target : Name) → Kept (veiled a s) n i target → Kept moved n i target
   same_kept n i target (inl k) = inl (same_safe target k)
   same_kept n i target (inr k) = inr (record { node = k.0.node; node_is = nodes n ∙ k.0.node_is; field = k.0.field }, same_ahead n i k.1)
 
-  pub shown_facts : Facts (veiled b s)
-  shown_facts = record {
-    base = shown_base;
+  pub moved_facts : Facts moved
+  moved_facts = record {
+    base = moved_base;
     roots = f.roots;
     kept = λ n i target st. same_kept n i target (f.kept n i target st);
     opened = λ n c there. same_safe n (f.opened n c there);
     ended = λ weak c there. same_safe weak (f.ended weak c there);
     finalised = λ weak target parts c alive kept. same_safe target (f.finalised weak target parts c alive kept);
   }
+
+-- the same world with other registers shown
+pub shown_facts : (s : State) (a b : ℕ → Bool) → Facts (veiled a s) → ((k : ℕ) → b k ≡ true → All (Names (MayHold s)) (state_of s.world k).registers) →
+    Facts (veiled b s)
+shown_facts s a b f holds = moved_facts s a b s.world (λ n. refl) refl (λ k. refl) (λ k. refl) f holds

@@ -10,9 +10,9 @@ use Rattle.nmgc_world_spec.specs.Reach.{IsLive, IsRoot, IsAlive, IsPlain, IsKept
 use Rattle.nmgc_world_spec.specs.Reach as reach
 use Rattle.nmgc_lists.specs.laws.Items.{at_some, nothing_in, map_contains, contains_head}
 use Rattle.nmgc_world_laws.specs.{Holds.Names, Holds.Fields, laws.HeldSteps.absent}
-use Rattle.nmgc_snapshot_laws.specs.{State.State, Facts.MayHold, Facts.AsThen, Facts.Facts, laws.Lives.root_there}
+use Rattle.nmgc_snapshot_laws.specs.{State.State, State.opening, Facts.MayHold, Facts.AsThen, Facts.Facts, laws.Lives.root_there}
 use Rattle.nmgc_barrier_laws.specs.{declared.debt.Debt.Debt, Barrier.names_in, Barrier.after_pushing, laws.TiedPush.live_same, laws.Veil.hide_length, laws.Veil.hidden_state, laws.Veil.hidden_node, laws.Veil.hidden_queue, laws.Veil.shown_names, laws.HybridCommand.veiled, laws.HybridTied.IsTiedIn, laws.HybridTied.shown_in, laws.HybridBeside.beside_tied}
-use Rattle.nmgc_barrier_laws.specs.Hybrid.{Hybrid, veil, hidden, bare, is_scanned, WatchesIn, BesideIn, AreScanned, held_names, opening_in, after_owing_in, after_scanning, HybridSafetyTheorem, ScansAtOnceAreRoots, SomeMarkerIsBesideIn}
+use Rattle.nmgc_barrier_laws.specs.Hybrid.{Hybrid, veil, hidden, bare, is_scanned, WatchesIn, BesideIn, AreScanned, held_names, opening_in, after_owing_in, after_handing, after_scanning, HybridSafetyTheorem, ScansAtOnceAreRoots, SomeMarkerIsBesideIn}
 use Rattle.nmgc_barrier_laws.specs.Hybrid as hybrid
 
 -- the key of a weak pointer that is alive is in the map
@@ -66,6 +66,9 @@ module _ (shown : ℕ → Bool) (s : State) (f : Facts (veiled shown s)) (all : 
 -- the marker that takes and reads nothing
 pub some_marker_in : SomeMarkerIsBesideIn
 some_marker_in w is h hybrid.begun = (opening_in w, hybrid.start)
+some_marker_in w is h hybrid.begun_at_once = (opening w, hybrid.start_at_once)
+some_marker_in w is h (hybrid.handed before next line m v n r h' k) = let p : (s : State) × BesideIn w before s = some_marker_in w is before h' in
+    (after_handing p.0 m v n r (names_in next.watch.debts), hybrid.give before next p.0 line m v n r p.1 k)
 some_marker_in w is h (hybrid.given before next line m c answer h' k) = let p : (s : State) × BesideIn w before s = some_marker_in w is before h' in
     (after_owing_in p.0 m c (names_in next.watch.debts), hybrid.command before next p.0 line m c answer p.1 k)
 some_marker_in w is h (hybrid.scanned before next m h' k) =

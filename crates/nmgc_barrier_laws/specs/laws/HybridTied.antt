@@ -8,8 +8,8 @@ use Rattle.nmgc_world_spec.specs.declared.value.Value.TheVariants as value
 use Rattle.nmgc_lists.specs.laws.Items.{contains_one, nothing_in, contains_flat}
 use Rattle.nmgc_world_laws.specs.{Holds.Names, laws.WorldSteps.step_keeps_world}
 use Rattle.nmgc_snapshot_laws.specs.{State.State, State.names_of, State.opening, State.unmarked, State.root_values, Machine.after_command, Facts.MayHold, Facts.IsSafe, Facts.Facts, Facts.owed, Facts.pushed, Facts.marked, laws.Listed.names_same, laws.Listed.names_other, laws.Listed.all_from_contains, laws.Lives.live_more, laws.Openings.opening_facts, laws.Openings.no_names}
-use Rattle.nmgc_barrier_laws.specs.{declared.debt.Debt.Debt, Due.IsDue, Stored.IsStored, Cycle.Cycle, Cycle.Owes, Barrier.names_in, Barrier.IsOnItsWay, laws.Tied.listed_debt, laws.Tied.debt_listed, laws.Tied.all_names, laws.TiedPush.MarksOn, laws.TiedPush.opening_marks, laws.HybridCommand.veiled, laws.HybridCommand.unseen_facts, laws.HybridCommands.seen_facts, laws.HybridCommands.due_may, laws.HybridFacts.hidden_world, laws.HybridFacts.widened_facts, laws.HybridFacts.shown_facts}
-use Rattle.nmgc_barrier_laws.specs.Hybrid.{Hybrid, hidden, bare, is_scanned, beginning, IsHandedOut, IsDueIn, IsWatchedIn, held_names, IsScanned, opening_in, after_owing_in, after_scanning}
+use Rattle.nmgc_barrier_laws.specs.{declared.debt.Debt.Debt, Due.IsDue, Stored.IsStored, Cycle.Cycle, Cycle.Owes, Barrier.names_in, Barrier.IsOnItsWay, laws.Tied.listed_debt, laws.Tied.debt_listed, laws.Tied.all_names, laws.TiedPush.MarksOn, laws.TiedPush.opening_marks, laws.Veil.hidden_none, laws.HybridCommand.veiled, laws.HybridCommand.unseen_facts, laws.HybridCommands.seen_facts, laws.HybridCommands.due_may, laws.HybridFacts.hidden_world, laws.HybridFacts.widened_facts, laws.HybridFacts.shown_facts}
+use Rattle.nmgc_barrier_laws.specs.Hybrid.{Hybrid, hidden, bare, is_scanned, beginning, scanned_at_once, IsHandedOut, IsDueIn, IsWatchedIn, held_names, IsScanned, opening_in, after_owing_in, after_scanning}
 
 -- the mutators that are shown: those that are scanned
 abbrev pub shown_in : Hybrid → ℕ → Bool
@@ -283,4 +283,26 @@ begin_tied w is =
       );
       remembered = λ n r there. absurd (nothing_in n r);
       only = λ m n c. absurd (nothing_in n (subst (λ (l : List Name). Contains l n) (no_names (length (bare w).mutators) m) (rw k.owed at c)));
+    }
+
+-- the cycle begins with all mutators scanned
+pub begin_at_once_tied : (w : World) → IsWorld w → IsTiedIn (scanned_at_once w) (opening w)
+begin_at_once_tied w is =
+    let k : MarksOn (unmarked w) (opening w) = opening_marks (unmarked w) (root_values w) in
+    let f : Facts (opening w) = opening_facts w is in
+    let all : Facts (veiled (λ j. true) (opening w)) =
+    subst (λ (v : World). Facts (record (opening w) { world = v })) (sym (hidden_none (opening w).world)) f in
+    record {
+      facts = shown_facts (opening w) (λ j. true) (shown_in (scanned_at_once w)) all (λ j seen. f.base.holds.registers j);
+      closed = subst IsWorld (sym k.world) is;
+      is_open = k.is_closed;
+      world = k.world;
+      snapshot = k.snapshot;
+      finalised = k.finalised;
+      opened = λ n there. (
+        λ c. absurd (nothing_in n (rw k.opened at c)),
+        λ c. elim c [ inl a ↦ absurd (nothing_in n a) | inr (inl b) ↦ absurd (nothing_in n b) | inr (inr o) ↦ absurd (nothing_in o.0 o.1) ],
+      );
+      remembered = λ n r there. absurd (nothing_in n r);
+      only = λ m n c. absurd (nothing_in n (subst (λ (l : List Name). Contains l n) (no_names (length w.mutators) m) (rw k.owed at c)));
     }

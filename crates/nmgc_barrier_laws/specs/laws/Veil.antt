@@ -13,6 +13,14 @@ pub hide_length : (shown : ℕ → Bool) (states : List MutatorState) → length
 hide_length shown [] = refl
 hide_length shown (state ∷ states) = ap suc (hide_length (λ k. shown (suc k)) states)
 
+-- a world with all registers shown is the world
+hide_none : (states : List MutatorState) → hide (λ k. true) states ≡ states
+hide_none [] = refl
+hide_none (state ∷ states) = ap (λ (l : List MutatorState). state ∷ l) (hide_none states)
+
+pub hidden_none : (w : World) → hidden (λ k. true) w ≡ w
+hidden_none w = ap (λ (l : List MutatorState). record w { mutators = l }) (hide_none w.mutators)
+
 veil_none : (b : Bool) → no_mutator ≡ veil b no_mutator
 veil_none true = refl
 veil_none false = refl
