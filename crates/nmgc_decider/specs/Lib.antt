@@ -1,0 +1,5 @@
+pub mod Fitting
+pub mod Heap
+pub mod Ready
+pub mod Waiting
+pub mod laws
