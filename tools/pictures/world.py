@@ -12,7 +12,7 @@ REGISTER = re.compile("r(?:[0-9]|[1-5][0-9]|6[0-3])")
 # The operands of each command: D and V are registers, V may be g; N a number, T a tag, I an index, C a count; * is any number.
 FORMS = {
     "num": "DN", "nil": "D", "mov": "DV", "con": "DT*", "var": "DV", "arr": "DCV", "thunk": "D*", "weak": "DVVV", "stack": "DC",
-    "get": "DVI", "set": "VIV", "cas": "VIVV", "update": "VV", "force": "DV", "push": "VV", "pop": "DV", "deref": "DV",
+    "get": "DVI", "tag": "DV", "set": "VIV", "cas": "VIVV", "update": "VV", "force": "DV", "push": "VV", "pop": "DV", "deref": "DV",
     "finalise": "DV", "nextfin": "D", "show": "V", "same": "VV", "yield": "", "collect": "", "full": "",
 }
 LIMITS = {"N": BELOW, "T": TAGS, "I": 1 << 16, "C": FIELDS + 1}
@@ -87,7 +87,7 @@ class World:
     def object_of(self, mutator, words):
         """The object that a command reads or changes: its name, or None."""
         at = FORMS[words[0]].find("V")
-        if words[0] in ("get", "set", "cas", "update", "force", "push", "pop", "deref", "finalise"):
+        if words[0] in ("get", "tag", "set", "cas", "update", "force", "push", "pop", "deref", "finalise"):
             value = self.value(mutator, words[1 + at])
             return value if is_reference(value) else None
         return None
@@ -147,6 +147,10 @@ class World:
             return Effect("wrongkind")
         at = int(values[1])
         return self._gives(register, fields[at]) if at < len(fields) else Effect("nofield")
+
+    def _tag(self, mutator, register, target, values):
+        kind, *rest = self.lines[target].split(" ")
+        return self._gives(register, rest[0]) if kind == "con" else Effect("wrongkind")
 
     def fields(self, name):
         """The fields of a constructor, a variable or an array, or None."""
@@ -233,7 +237,7 @@ class World:
         return Effect("yes" if values[0] == values[1] else "no")
 
 
-NEEDS = ("get", "set", "cas", "update", "force", "push", "pop", "deref", "finalise")  # these want an object
+NEEDS = ("get", "tag", "set", "cas", "update", "force", "push", "pop", "deref", "finalise")  # these want an object
 MAKES = {
     "con": lambda values: " ".join(["con"] + values),
     "var": lambda values: f"var {values[0]}",

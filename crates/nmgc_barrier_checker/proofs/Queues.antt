@@ -88,6 +88,7 @@ own_fewer w m (command.Thunk dest free) lt = born_fewer w m dest _ lt
 own_fewer w m (command.Weak dest key x finaliser) lt = born_fewer w m dest _ lt
 own_fewer w m (command.Stack dest size) lt = born_fewer w m dest _ lt
 own_fewer w m (command.Get dest object index) lt = keeping_fewer w m dest _ lt
+own_fewer w m (command.Tag dest object) lt = keeping_fewer w m dest _ lt
 own_fewer w m (command.Set object index x) lt = change_fewer w m (value_for w m object) (change.Set index (value_for w m x))
 own_fewer w m (command.Cas object index expected x) lt =
     change_fewer w m (value_for w m object) (change.Exchange index (value_for w m expected) (value_for w m x))

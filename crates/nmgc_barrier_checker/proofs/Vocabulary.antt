@@ -7,7 +7,7 @@ pub use Rattle.nmgc_snapshot_laws.specs.{State.is_listed, laws.Listed.contains_l
 pub use Rattle.nmgc_barrier_checker.specs.{Accounts.AreAccounts, Accounts.AreNew, Accounts.IsForgotten, Accounts.IsLeastIn, Accounts.IsOwing, Accounts.IsPaidUp, Accounts.all_debts, Accounts.debt_of, Accounts.is_new, Accounts.is_unpaid, Accounts.owed_one, Accounts.queue_of, Accounts.set_of, Accounts.unpaid, Cycles.Hands, Cycles.IsCycle, Cycles.IsGivenOver, Cycles.IsNotDone, Cycles.IsMadeDue, Cycles.IsNotScanned, Cycles.IsOpenedWith, Cycles.IsTaken, Cycles.IsUntakenIf, Cycles.IsUntakenIn, Cycles.IsUntakenName, Cycles.IsWhyNoHand, Cycles.IsWhyNot, Cycles.is_outside, Cycles.is_untaken, Cycles.key_names, Cycles.keys_then, Dues.IsStanding, Dues.end_place, Dues.first_place, Dues.given_names, Dues.is_ref_to, Dues.kept_of, Dues.kept_then, Dues.stands_in, Dues.strong_in, Dues.targets, NameSet.IsListed, NameSet.Joins, NameSet.joined, SortedNames.AreMet, SortedNames.IsBetween, SortedNames.IsPlaceOf, SortedNames.StandsAt, Rows.copied, Rows.emptied, Rows.filled, Rows.is_done, Rows.load_of, Rows.store_of, Rows.write_of, Watching.AreActed, Watching.AreClosed, Watching.AreDone, Watching.Can, Watching.CanAct, Watching.CanBlack, Watching.CanClose, Watching.CanCloseWith, Watching.CanFreed, Watching.CanGive, Watching.CanGiveOver, Watching.CanMark, Watching.CanMarkShared, Watching.CanMarked, Watching.CanPush, Watching.CanRows, Watching.CanScan, Watching.CanSettle, Watching.CanStop, Watching.CanTake, Watching.ClosedIsExact, Watching.CountsAsScanned, Watching.EveryEventIsJudged, Watching.IsAbsent, Watching.IsAct, Watching.IsAgainst, Watching.IsAgainstIf, Watching.IsBlackName, Watching.IsDeadIf, Watching.IsLeft, Watching.IsResultWith, Watching.IsMissingIf, Watching.IsStep, Watching.IsWhy, Watching.KeptIsMarked, Watching.MayFree, Watching.NeededIsKept, Watching.NeedsNoScan, Watching.ReasonsRefuse, Watching.StopsAt, Watching.WhyBlack, Watching.WhyClose, Watching.WhyCloseWith, Watching.WhyFreed, Watching.WhyGive, Watching.WhyKept, Watching.WhyMark, Watching.WhyMarked, Watching.WhyNoAct, Watching.WhyNotGivenOver, Watching.WhyPush, Watching.WhyScan, Watching.WhySettle, Watching.WhyStop, Watching.WhyTake, Watching.is_old, Watching.is_stopped, Watching.mutators_of}
 pub use Rattle.nmgc_barrier_checker.specs.declared.{accounts.Accounts.Accounts, due.Field.Field, event.Event.Event, event.Why.Why, hand.Hand.Hand, cycle_result.CycleResult.CycleResult, name_set.NameSet.NameSet, rows.Copying.Copying, rows.Filling.Filling, watch.Watch.Watch}
 pub use Rattle.nmgc_world_laws.specs.{Holds.HasStrongField, Holds.Names, Holds.strong_at, laws.Barrier.exchanged_node, laws.Barrier.two_nodes, laws.Keeps.Any, laws.Keeps.hand_nodes, laws.Keeps.stepped, laws.Keeps.still_there, laws.NodeLaws.next_is_new, laws.NodeLaws.node_born, laws.NodeLaws.node_cases, laws.Steps.Object, laws.Steps.Stepped, laws.WorldSteps.step_keeps_world, laws.Worlds.not_shared, laws.Worlds.refill_whole}
-pub use Rattle.nmgc_world_spec.specs.{World.changed, World.field_exchanged, World.field_set, World.is_same_name, World.stack_popped, World.stack_pushed, World.shared_name, World.step, World.World, World.no_mutator, World.node_of, World.serial_of, World.state_of, Known.HasRegisters, Known.IsOperand, Known.IsRegister, Reach.finalised_by, Reach.name_in, Reach.opened_by, Reach.names_among, Reach.IsAlive, Reach.IsAliveWeak, Reach.IsBefore, Reach.IsDead, Reach.IsInOrder, Reach.IsKept, Reach.IsKeptBy, Reach.IsLive, Reach.IsPlain, Reach.Lists, Reach.RefersTo, Reach.closed, Reach.strong_fields, Order.ListsBefore, Known.CanApply, Written.asked, Known.IsKnown, Known.IsNodeOf, Known.IsWorld, declared.change.Change.Change, declared.command.Command.Command, declared.command.Command.TheVariants.Cas, declared.command.Command.TheVariants.Collect, declared.command.Command.TheVariants.Deref, declared.command.Command.TheVariants.Finalise, declared.command.Command.TheVariants.Force, declared.command.Command.TheVariants.Full, declared.command.Command.TheVariants.Get, declared.command.Command.TheVariants.Mov, declared.command.Command.TheVariants.NextFin, declared.command.Command.TheVariants.Nil, declared.command.Command.TheVariants.Num, declared.command.Command.TheVariants.Pop, declared.command.Command.TheVariants.Push, declared.command.Command.TheVariants.Same, declared.command.Command.TheVariants.Set, declared.command.Command.TheVariants.Show, declared.command.Command.TheVariants.Update, declared.command.Command.TheVariants.Yield, declared.command.Operand.Operand, declared.command.Operand.TheVariants.Register, declared.command.Operand.TheVariants.Shared, declared.command.Reply.Reply, declared.command.Reply.TheVariants.Fine, declared.command.Reply.TheVariants.NoField, declared.command.Reply.TheVariants.StackFull, declared.mutator_state.MutatorState.MutatorState, declared.node.Node.Node, declared.node.Node.TheVariants.Arr, declared.node.Node.TheVariants.Con, declared.node.Node.TheVariants.Stack, declared.node.Node.TheVariants.Thunk, declared.node.Node.TheVariants.Var, declared.node.Node.TheVariants.Weak, declared.node.Parts.Parts, declared.value.Name.Name, declared.value.Value.Value, laws.Common.same_ref as ref_is, laws.Common.weak_there, laws.Common.weak_there as alive_there, laws.Orders.before_trans, laws.Orders.contains_filter, laws.Orders.filter_contains, laws.Orders.in_order_filter, laws.Orders.in_order_first, laws.Orders.in_order_rest, laws.Orders.lists_all, laws.Orders.lists_maker, laws.Orders.lists_more, laws.Orders.lists_none, laws.Orders.lists_same, laws.Orders.name_cases, laws.Orders.not_before_itself}
+pub use Rattle.nmgc_world_spec.specs.{World.changed, World.field_exchanged, World.field_set, World.is_same_name, World.stack_popped, World.stack_pushed, World.shared_name, World.step, World.World, World.no_mutator, World.node_of, World.serial_of, World.state_of, Known.HasRegisters, Known.IsOperand, Known.IsRegister, Reach.finalised_by, Reach.name_in, Reach.opened_by, Reach.names_among, Reach.IsAlive, Reach.IsAliveWeak, Reach.IsBefore, Reach.IsDead, Reach.IsInOrder, Reach.IsKept, Reach.IsKeptBy, Reach.IsLive, Reach.IsPlain, Reach.Lists, Reach.RefersTo, Reach.closed, Reach.strong_fields, Order.ListsBefore, Known.CanApply, Written.asked, Known.IsKnown, Known.IsNodeOf, Known.IsWorld, declared.change.Change.Change, declared.command.Command.Command, declared.command.Command.TheVariants.Cas, declared.command.Command.TheVariants.Collect, declared.command.Command.TheVariants.Deref, declared.command.Command.TheVariants.Finalise, declared.command.Command.TheVariants.Force, declared.command.Command.TheVariants.Full, declared.command.Command.TheVariants.Get, declared.command.Command.TheVariants.Mov, declared.command.Command.TheVariants.NextFin, declared.command.Command.TheVariants.Nil, declared.command.Command.TheVariants.Num, declared.command.Command.TheVariants.Pop, declared.command.Command.TheVariants.Push, declared.command.Command.TheVariants.Same, declared.command.Command.TheVariants.Set, declared.command.Command.TheVariants.Show, declared.command.Command.TheVariants.Tag, declared.command.Command.TheVariants.Update, declared.command.Command.TheVariants.Yield, declared.command.Operand.Operand, declared.command.Operand.TheVariants.Register, declared.command.Operand.TheVariants.Shared, declared.command.Reply.Reply, declared.command.Reply.TheVariants.Fine, declared.command.Reply.TheVariants.NoField, declared.command.Reply.TheVariants.StackFull, declared.mutator_state.MutatorState.MutatorState, declared.node.Node.Node, declared.node.Node.TheVariants.Arr, declared.node.Node.TheVariants.Con, declared.node.Node.TheVariants.Stack, declared.node.Node.TheVariants.Thunk, declared.node.Node.TheVariants.Var, declared.node.Node.TheVariants.Weak, declared.node.Parts.Parts, declared.value.Name.Name, declared.value.Value.Value, laws.Common.same_ref as ref_is, laws.Common.weak_there, laws.Common.weak_there as alive_there, laws.Orders.before_trans, laws.Orders.contains_filter, laws.Orders.filter_contains, laws.Orders.in_order_filter, laws.Orders.in_order_first, laws.Orders.in_order_rest, laws.Orders.lists_all, laws.Orders.lists_maker, laws.Orders.lists_more, laws.Orders.lists_none, laws.Orders.lists_same, laws.Orders.name_cases, laws.Orders.not_before_itself}
 pub use Rattle.std.proofs.Common.{Bool, Bor, List, None, Option, Some, [], ap, append-nil, append_assoc, arith, cond, drop, eqb, false, get_or, inl, inr, length, length-set, ltb, map, not, refl, replicate, set, subst, suc, sym, take, true, zero, ℕ, ◌++◌, ◌+◌, ◌-◌, ◌/◌, ◌<◌, ◌^◌, ◌∙◌, ◌∷◌, ◌≡◌, ◌≢◌, ◌≤◌, ◌⊎◌}
 pub use Rattle.std.proofs.lemmas.{Bool.and_cases, Bool.and_from, Bool.and_parts, Bool.cases_Bool, Bool.cases_eq, Bool.cases_lt, Bool.eq-eqb, Bool.eqb-true, Bool.false≢true, Bool.ne_eqb, Bool.not-false, Bool.or_cases, Bool.Decides.eqb_tells, List.get_or-set_other, List.get_or-set_same, List.get_or_default, List.get_or_past, List.length-replicate, List.take_all, List.take_more, List.Elements.All-append, List.Elements.All-cons, List.Elements.All-contains, List.Elements.All-head, List.Elements.All-nil, List.Elements.All-tail, List.Elements.Contains-append_cases, List.Elements.Contains-append_left, List.Elements.Contains-append_right, List.Elements.Contains-get_or, List.Elements.filter-append, Option.get_or_from_slice_get, Option.slice_get-get_or, Option.slice_get_within, Result.IfOk-weaker}
 pub use Rattle.std.specs.Prelude.{All, Contains, IfNone, IsSome, filter, flat_map, is_none, is_some, option_copied, option_to_list, slice_get, slice_set, ◌&&◌, ◌||◌, ◌↔◌}

@@ -22,7 +22,7 @@ pub use Rattle.nmgc_weak.specs.{Closes.QueuesClose, Queues.weak_count, Resolve.C
 pub use Rattle.nmgc_world_laws.specs.{Holds.CoversReach, Holds.Fields, Holds.HasStrongField, Holds.Names, Holds.free_of as free_if, Holds.has_result, Holds.strong_at, Reachable.CanReplay, Reachable.CountsNew, Reachable.HoldsOnly, Reachable.IsSound, Shape.SameShape, Shape.kind_of, Shape.made_by, Shape.part_count, Stored.Stores, Stored.place_written, Stored.value_written}
 pub use Rattle.nmgc_world_laws.specs.laws.{Barrier.field_at_place, Barrier.place_of_field, Deaths.finalised_dead, Distinct.others_counted, Growth.step_grows, HeldSteps.absent, HeldSteps.opened_has, HeldSteps.some_of, HeldSteps.step_holds_only, HeldSteps.weaks_held, Keeps.Any, Keeps.hand_nodes, Keeps.step_leaves_others, Keeps.stepped, Keeps.still_there, NodeLaws.as_many, NodeLaws.maker_there, NodeLaws.next_is_new, NodeLaws.node_born, NodeLaws.node_cases, NodeLaws.node_same, NodeLaws.nodes_kept, NodeLaws.own_node, NodeLaws.state_other, NodeLaws.state_same, NodeShapes.changed_shape, Reached.OfOld, Reached.rows_hold, Reached.step_adds_one, Reached.wide_or_new_holds, Reached.world_holds, Shapes.rows_keep_shapes, Steps.Stepped, StoredLaws.old_refers_to_young, StoredLaws.old_weaks_are_finalised, StoredLaws.old_weaks_stay, StoredLaws.step_stores, WeakMoves.all_moves, WeakMoves.opened_owed, Weaks.weak_maker, WorldSteps.change_count as count_changed, WorldSteps.step_keeps_world, Worlds.not_shared}
 pub use Rattle.nmgc_world_spec.specs.{World.changed, World.exchanged_at, World.field_exchanged, World.field_set, World.is_same, World.is_same_name, World.last_of, World.stack_popped, World.stack_pushed, World.thunk_updated, World.words_made, World.born, World.change_into, World.change_object, World.keeping, World.next_name, World.shared_name, World.step, World.value_for, World.value_of, World.with_node, World.with_register, World.with_state, World.World, World.held_by, World.no_mutator, World.node_of, World.serial_of, World.state_of, Pieces.given_or, Pieces.without_last, Known.IsMaking, Reach.IsLegal as IsLegalHistory, Reach.IsOrderOf, Reach.Row, Reach.opened, Reach.opened_by, Reach.replayed, Reach.rows_of, Reach.Counts, Reach.ListsNumbers, Reach.names_among, Reach.owed_by, Reach.IsAlive, Reach.IsAliveWeak, Reach.IsBefore, Reach.IsDead, Reach.IsInOrder, Reach.IsKept, Reach.IsLive, Reach.IsReached, Reach.IsRoot, Reach.Lists, Reach.RefersTo, Reach.closed, Reach.further, Reach.live_key, Reach.plain_key, Reach.root, Reach.start, Reach.start as begins, Reach.strong_fields, Reach.IsWide, Known.CanApply, Written.asked, Pieces.change_node, Pieces.holding as world_holding, Pieces.holding_given, Pieces.with_finaliser, Pieces.with_new, Pieces.with_nth, Known.IsKnown, Known.IsNodeOf, Known.IsWorld, Known.given}
-pub use Rattle.nmgc_world_spec.specs.declared.{change.Change.Change, command.Command.Command, command.Command.TheVariants.Cas, command.Command.TheVariants.Collect, command.Command.TheVariants.Deref, command.Command.TheVariants.Finalise, command.Command.TheVariants.Force, command.Command.TheVariants.Full, command.Command.TheVariants.Get, command.Command.TheVariants.Mov, command.Command.TheVariants.NextFin, command.Command.TheVariants.Num, command.Command.TheVariants.Pop, command.Command.TheVariants.Push, command.Command.TheVariants.Same, command.Command.TheVariants.Set, command.Command.TheVariants.Show, command.Command.TheVariants.Update, command.Command.TheVariants.Yield, command.Operand.Operand, command.Operand.TheVariants.Register, command.Operand.TheVariants.Shared, command.Reply.Reply, command.Reply.TheVariants.Fine, command.Reply.TheVariants.Given, command.Reply.TheVariants.No, command.Reply.TheVariants.NoField, command.Reply.TheVariants.NoPointer, command.Reply.TheVariants.Nothing, command.Reply.TheVariants.Updated, command.Reply.TheVariants.Yes, mutator_state.MutatorState.MutatorState, node.Kind.Kind, node.Node.Node, node.Node.TheVariants.Arr, node.Node.TheVariants.Con, node.Node.TheVariants.Stack, node.Node.TheVariants.Thunk, node.Node.TheVariants.Var, node.Node.TheVariants.Weak, node.Parts.Parts, value.Name.Name, value.Value.Value, value.Value.TheVariants.Nil, value.Value.TheVariants.Number, value.Value.TheVariants.Ref}
+pub use Rattle.nmgc_world_spec.specs.declared.{change.Change.Change, command.Command.Command, command.Command.TheVariants.Cas, command.Command.TheVariants.Collect, command.Command.TheVariants.Deref, command.Command.TheVariants.Finalise, command.Command.TheVariants.Force, command.Command.TheVariants.Full, command.Command.TheVariants.Get, command.Command.TheVariants.Mov, command.Command.TheVariants.NextFin, command.Command.TheVariants.Num, command.Command.TheVariants.Pop, command.Command.TheVariants.Push, command.Command.TheVariants.Same, command.Command.TheVariants.Set, command.Command.TheVariants.Show, command.Command.TheVariants.Tag, command.Command.TheVariants.Update, command.Command.TheVariants.Yield, command.Operand.Operand, command.Operand.TheVariants.Register, command.Operand.TheVariants.Shared, command.Reply.Reply, command.Reply.TheVariants.Fine, command.Reply.TheVariants.Given, command.Reply.TheVariants.No, command.Reply.TheVariants.NoField, command.Reply.TheVariants.NoPointer, command.Reply.TheVariants.Nothing, command.Reply.TheVariants.Updated, command.Reply.TheVariants.Yes, mutator_state.MutatorState.MutatorState, node.Kind.Kind, node.Node.Node, node.Node.TheVariants.Arr, node.Node.TheVariants.Con, node.Node.TheVariants.Stack, node.Node.TheVariants.Thunk, node.Node.TheVariants.Var, node.Node.TheVariants.Weak, node.Parts.Parts, value.Name.Name, value.Value.Value, value.Value.TheVariants.Nil, value.Value.TheVariants.Number, value.Value.TheVariants.Ref}
 pub use Rattle.nmgc_world_spec.specs.laws.{Common.none_left as empty_last, Common.not_known, Common.of_weak as of_kept, Orders.in_order_first, Orders.in_order_rest, Orders.not_before_itself, Orders.same_name}
 pub use Rattle.std.proofs.{Common.Bool, Common.List, Common.None, Common.Option, Common.Some, Common.[], Common.ap, Common.append-nil, Common.append_assoc, Common.arith, Common.cond, Common.eq-eqb, Common.eqb, Common.eqb-true, Common.false, Common.get_or, Common.inl, Common.inr, Common.le-leb, Common.le-ltb, Common.leb, Common.leb-true, Common.length, Common.length-append, Common.length-set, Common.length-take, Common.lit<, Common.lit≤, Common.lt-ltb, Common.ltb, Common.map, Common.mul-le-mul_right, Common.ne_eqb, Common.not, Common.refl, Common.replicate, Common.set, Common.slice_index, Common.subst, Common.suc, Common.sym, Common.take, Common.true, Common.zero, Common.ℕ, Common.◌%◌, Common.◌&&◌, Common.◌*◌, Common.◌++◌, Common.◌+◌, Common.◌-◌, Common.◌/◌, Common.◌<◌, Common.◌↔◌, Common.◌∙◌, Common.◌∷◌, Common.◌≡◌, Common.◌≢◌, Common.◌≤◌, Common.◌⊎◌, Math.ListN.get_or-eq_default}
 pub use Rattle.std.proofs.lemmas.{Bool.and_cases, Bool.and_from, Bool.and_parts, Bool.cases_eq, Bool.cases_lt, Bool.false_from_ne_true, Bool.false≢true, Bool.not-false, Bool.Decides.eqb_tells, List.get_or-append-add, List.get_or-replicate, List.get_or-set_other, List.get_or-set_same, List.get_or_default, List.get_or_past, List.length-map, List.length-replicate, List.set_past, List.Elements.All-append, List.Elements.All-cons, List.Elements.All-contains, List.Elements.All-head, List.Elements.All-nil, List.Elements.All-tail, List.Elements.Contains-append_cases, List.Elements.Contains-append_left, List.Elements.Contains-append_right, List.Elements.Contains-get_or, List.Sums.sum_by-cons, List.Sums.sum_by-set, Option.get_or_from_slice_get, Option.none-some, Option.same_Some, Option.slice_get-get_or, Option.slice_get_past, Option.slice_get_within, Option.some_pair_parts}

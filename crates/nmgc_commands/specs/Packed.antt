@@ -2,7 +2,7 @@
 use Rattle.nmgc_world_spec.specs.declared.command.Command.{Command}
 use Rattle.nmgc_world_spec.specs.declared.command.Command.TheVariants as plain
 use Rattle.nmgc_commands.specs.declared.packed.Form.{Form}
-use Rattle.nmgc_commands.specs.declared.packed.Form.TheVariants.{Num, Nil, Mov, Con, LongCon, Var, Arr, Thunk, LongThunk, Weak, Stack, Get, Set, Cas, Update, Force, Push, Pop, Deref, Finalise, NextFin, Show, Same, Yield, Collect, Full}
+use Rattle.nmgc_commands.specs.declared.packed.Form.TheVariants.{Num, Nil, Mov, Con, LongCon, Var, Arr, Thunk, LongThunk, Weak, Stack, Get, Tag, Set, Cas, Update, Force, Push, Pop, Deref, Finalise, NextFin, Show, Same, Yield, Collect, Full}
 
 -- the command that a form represents: the one of the same name and fields; `LongCon` is `Con`, and `LongThunk` is `Thunk`
 abbrev pub command_of : Form → Command
@@ -18,6 +18,7 @@ command_of (LongThunk dest free) = plain.Thunk dest free
 command_of (Weak dest key value finaliser) = plain.Weak dest key value finaliser
 command_of (Stack dest size) = plain.Stack dest size
 command_of (Get dest object index) = plain.Get dest object index
+command_of (Tag dest object) = plain.Tag dest object
 command_of (Set object index value) = plain.Set object index value
 command_of (Cas object index expected value) = plain.Cas object index expected value
 command_of (Update object value) = plain.Update object value

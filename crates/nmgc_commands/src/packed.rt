@@ -72,6 +72,10 @@ pub enum Form {
         object: Operand,
         index: u32,
     },
+    Tag {
+        dest: u8,
+        object: Operand,
+    },
     Set {
         object: Operand,
         index: u32,
@@ -159,6 +163,7 @@ impl Drop for Form {
                 object: _,
                 index: _,
             } => {}
+            Form::Tag { dest: _, object: _ } => {}
             Form::Set {
                 object: _,
                 index: _,
@@ -256,6 +261,7 @@ macro_rules! convert {
             $from::Get { dest, object, index } => {
                 Ok($to::Get { dest: *dest, object: *object, index: *index })
             }
+            $from::Tag { dest, object } => Ok($to::Tag { dest: *dest, object: *object }),
             $from::Set { object, index, value } => {
                 Ok($to::Set { object: *object, index: *index, value: *value })
             }

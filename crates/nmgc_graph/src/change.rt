@@ -4,13 +4,13 @@
 //! the same: the object is looked up, refused by its kind, changed in place, and a reply is given. So the world lends the
 //! object once, and the change is made here, on the node alone, in two halves. `change_reply` only reads: it gives the reply,
 //! which says whether the change is done. If it is, `write` makes the change, and refuses nothing. `World::apply` uses both
-//! halves, and `World::reply` the first alone, so the two can't differ. The readers for `get`, `force` and `deref` are here
-//! too, since they refuse by kind in the same way.
+//! halves, and `World::reply` the first alone, so the two can't differ. The readers for `get`, `tag`, `force` and `deref` are
+//! here too, since they refuse by kind in the same way.
 //!
 //! Easy to get wrong: `write` doesn't check for refusals again, and writes a variable's field at any index. So it may be
 //! called only if the reply says that the change is done.
 ghost use Rattle.std.specs.Prelude.{◌≡◌, IfOk, OnOk, OnErr};
-ghost use Rattle.nmgc_world_spec.specs.{World.changed, World.field_read, World.result_read, World.value_read, World.field_set, World.field_exchanged, World.thunk_updated, World.stack_pushed, World.stack_popped, World.weak_finalised, World.is_same, Pieces.given_or, Written.is_done, Written.written, Written.field_written, Written.result_written, Written.value_pushed, Written.top_dropped, Written.killed};
+ghost use Rattle.nmgc_world_spec.specs.{World.changed, World.field_read, World.tag_read, World.result_read, World.value_read, World.field_set, World.field_exchanged, World.thunk_updated, World.stack_pushed, World.stack_popped, World.weak_finalised, World.is_same, Pieces.given_or, Written.is_done, Written.written, Written.field_written, Written.result_written, Written.value_pushed, Written.top_dropped, Written.killed};
 ghost use Rattle.nmgc_world_spec.specs.declared.value.Value.{Value as ValueAt};
 
 use nmgc_lists::NoMemory;
@@ -25,6 +25,16 @@ pub fn read_field(node: &Node, index: u32) -> Reply
         Node::Con { tag: _, values: _ } | Node::Var { value: _ } | Node::Arr { values: _ } => {
             value_reply(Reply::NoField, node.field(index as usize))
         }
+        _ => Reply::WrongKind,
+    }
+}
+
+/// Returns the reply to `tag` for an object: a constructor's tag as a number, or a refusal. Takes no memory, and constant time.
+pub fn read_tag(node: &Node) -> Reply
+    ensures { result ≡ tag_read node.now }
+{
+    match node {
+        Node::Con { tag, values: _ } => Reply::Given(Value::Number(*tag as u64)),
         _ => Reply::WrongKind,
     }
 }

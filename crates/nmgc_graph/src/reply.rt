@@ -36,6 +36,7 @@ impl World {
                 object,
                 index,
             } => self.field(self.value(mutator, *object), *index),
+            Command::Tag { dest: _, object } => self.tag_of(self.value(mutator, *object)),
             Command::Force { dest: _, object } => self.result_of(self.value(mutator, *object)),
             Command::Deref { dest: _, object } => self.weak_value(self.value(mutator, *object)),
             Command::Set { .. }

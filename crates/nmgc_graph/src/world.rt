@@ -9,9 +9,9 @@
 //!
 //! Easy to get wrong: after `NoMemory` nothing may have changed. So all memory is taken before a register is written.
 ghost use Rattle.std.specs.Prelude.{replicate, Some, None, [], ◌≡◌, ◌-◌, ◌<◌, ◌≤◌, ◌^◌, length, map, IfOk, IfSome, IsSome, OnOk, OnErr, slice_get, option_copied, All};
-ghost use Rattle.nmgc_world_spec.specs.{World.new_mutator, World.value_of, World.next_name, World.changed, World.field_read, World.result_read, World.value_read, Known.IsOperand, Known.IsRegister, Pieces.with_new, Pieces.holding, Pieces.with_finaliser, Pieces.with_nth, declared.node.Node.Node as NodeAt, Pieces.given_or};
+ghost use Rattle.nmgc_world_spec.specs.{World.new_mutator, World.value_of, World.next_name, World.changed, World.field_read, World.tag_read, World.result_read, World.value_read, Known.IsOperand, Known.IsRegister, Pieces.with_new, Pieces.holding, Pieces.with_finaliser, Pieces.with_nth, declared.node.Node.Node as NodeAt, Pieces.given_or};
 
-use crate::change::{are_same, change_in_place, read_field, read_result, read_value};
+use crate::change::{are_same, change_in_place, read_field, read_result, read_tag, read_value};
 use nmgc_limits::{MAKERS, REGISTERS, SHARED_MAKER, SHARED_SLOTS};
 use nmgc_lists::{List, NoMemory, Queue};
 use nmgc_world_spec::{Change, Command, MutatorState, Name, Node, Operand, Parts, Reply, Value};
@@ -125,6 +125,9 @@ impl World {
                 *dest,
                 self.field(self.value(mutator, *object), *index),
             )),
+            Command::Tag { dest, object } => {
+                Ok(self.keep_reply(mutator, *dest, self.tag_of(self.value(mutator, *object))))
+            }
             Command::Force { dest, object } => {
                 Ok(self.keep_reply(mutator, *dest, self.result_of(self.value(mutator, *object))))
             }
@@ -261,6 +264,17 @@ impl World {
     {
         match self.object(object) {
             Some(node) => read_field(node, index),
+            None => Reply::NoPointer,
+        }
+    }
+
+    /// Returns the reply to `tag` of a value's target: a constructor's tag, or a refusal. Takes no memory, and constant time.
+    pub fn tag_of(&self, object: Value) -> Reply
+        ensures reply { result ≡ read_object (object_of self.now object) tag_read }
+        ensures known { IsKnownReply self.now result }
+    {
+        match self.object(object) {
+            Some(node) => read_tag(node),
             None => Reply::NoPointer,
         }
     }

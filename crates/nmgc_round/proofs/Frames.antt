@@ -1,5 +1,5 @@
 -- The parts of the world that a command leaves unchanged.
-use Rattle.nmgc_round.proofs.Vocabulary.{◌≡◌, ◌≢◌, ℕ, ◌<◌, length, refl, ap, ◌∙◌, arith, length-set, Option, Some, None, inl, inr, cases_eq, eqb_tells, SHARED_MAKER, Name, Value, Node, MutatorState, Change, Command, Num, Nil, Mov, Get, Set, Cas, Update, Force, Push, Pop, Deref, Finalise, NextFin, Show, Same, Yield, Collect, Full, Reply, World, state_of, node_of, changed, value_for, with_state, with_nth, with_node, keeping, change_node, change_object, change_into, step, state_same, state_other, maker_there, change_count}
+use Rattle.nmgc_round.proofs.Vocabulary.{◌≡◌, ◌≢◌, ℕ, ◌<◌, length, refl, ap, ◌∙◌, arith, length-set, Option, Some, None, inl, inr, cases_eq, eqb_tells, SHARED_MAKER, Name, Value, Node, MutatorState, Change, Command, Num, Nil, Mov, Get, Tag, Set, Cas, Update, Force, Push, Pop, Deref, Finalise, NextFin, Show, Same, Yield, Collect, Full, Reply, World, state_of, node_of, changed, value_for, with_state, with_nth, with_node, keeping, change_node, change_object, change_into, step, state_same, state_other, maker_there, change_count}
 use Rattle.nmgc_world_spec.specs.declared.command.Command.TheVariants.{Con, Var, Arr, Thunk, Weak, Stack}
 use Rattle.nmgc_world_spec.specs.declared.value.Value.TheVariants as value
 use Rattle.nmgc_world_spec.specs.declared.change.Change.TheVariants as change
@@ -88,6 +88,7 @@ module _ (m k : ℕ) (ne : k ≢ m) where
   step_other w (Weak dest key v finaliser) lt = set_other w _ lt
   step_other w (Stack dest size) lt = set_other w _ lt
   step_other w (Get dest object index) lt = same_of _ _ (keeping_other w dest _ lt)
+  step_other w (Tag dest object) lt = same_of _ _ (keeping_other w dest _ lt)
   step_other w (Set object index v) lt = change_frame w (value_for w m object) (change.Set index (value_for w m v)) k
   step_other w (Cas object index expected v) lt = change_frame w (value_for w m object) (change.Exchange index (value_for w m expected) (value_for w m v)) k
   step_other w (Update object v) lt = change_frame w (value_for w m object) (change.Update (value_for w m v)) k

@@ -1,5 +1,5 @@
 -- A command that makes an object, in the world and in words.
-use Rattle.nmgc_round.proofs.Vocabulary.{◌≡◌, ◌≢◌, Bool, cond, eq-eqb, ne_eqb, ℕ, zero, suc, ◌+◌, ◌*◌, ◌/◌, ◌≤◌, List, [], ◌∷◌, map, replicate, set, refl, sym, ap, ◌∙◌, arith, slice_index, Some, None, slice_get, length-map, length-replicate, Value, Node, Operand, Command, Num, Nil, Mov, Get, Set, Cas, Update, Force, Push, Pop, Deref, Finalise, NextFin, Show, Same, Yield, Collect, Full, World, state_of, IsSized, IsMaking, words_made, shared_name, value_of, born, step, owed_by, IsHeader, most_segment_words, SHARED_PLACE, header_of, size_of, slots_of, Place, Means, HasSlots, AllMean, ListMeans, item_all, values_fill, slots_of_fields, slots_at, word, Hand, word_of, leaves, header_made, fields_made}
+use Rattle.nmgc_round.proofs.Vocabulary.{◌≡◌, ◌≢◌, Bool, cond, eq-eqb, ne_eqb, ℕ, zero, suc, ◌+◌, ◌*◌, ◌/◌, ◌≤◌, List, [], ◌∷◌, map, replicate, set, refl, sym, ap, ◌∙◌, arith, slice_index, Some, None, slice_get, length-map, length-replicate, Value, Node, Operand, Command, Num, Nil, Mov, Get, Tag, Set, Cas, Update, Force, Push, Pop, Deref, Finalise, NextFin, Show, Same, Yield, Collect, Full, World, state_of, IsSized, IsMaking, words_made, shared_name, value_of, born, step, owed_by, IsHeader, most_segment_words, SHARED_PLACE, header_of, size_of, slots_of, Place, Means, HasSlots, AllMean, ListMeans, item_all, values_fill, slots_of_fields, slots_at, word, Hand, word_of, leaves, header_made, fields_made}
 use Rattle.nmgc_world_spec.specs.{declared.command.Command.TheVariants.Con, declared.command.Command.TheVariants.Var, declared.command.Command.TheVariants.Arr, declared.command.Command.TheVariants.Thunk, declared.command.Command.TheVariants.Weak, declared.command.Command.TheVariants.Stack, World.Fits}
 use Rattle.nmgc_world_spec.specs.declared.node.Node.TheVariants as node
 use Rattle.nmgc_round.proofs.Lists.{operand_means}
@@ -16,6 +16,7 @@ made_header words (Num dest number) le f m = absurd m
 made_header words (Nil dest) le f m = absurd m
 made_header words (Mov dest v) le f m = absurd m
 made_header words (Get dest object index) le f m = absurd m
+made_header words (Tag dest object) le f m = absurd m
 made_header words (Set object index v) le f m = absurd m
 made_header words (Cas object index expected v) le f m = absurd m
 made_header words (Update object v) le f m = absurd m
@@ -198,6 +199,7 @@ module _ (P : Place → Type 0) (ws : List ℕ) (w : World) (m : ℕ) (g : P (re
   maker (Nil dest) is = absurd is
   maker (Mov dest v) is = absurd is
   maker (Get dest object index) is = absurd is
+  maker (Tag dest object) is = absurd is
   maker (Set object index v) is = absurd is
   maker (Cas object index expected v) is = absurd is
   maker (Update object v) is = absurd is

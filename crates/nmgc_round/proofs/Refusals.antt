@@ -1,11 +1,19 @@
 -- Commands whose position in the order is a load of the header of g keep the rule.
-use Rattle.nmgc_round.proofs.Vocabulary.{◌≡◌, ◌⊎◌, drop, inl, inr, ℕ, ◌+◌, ◌*◌, ◌/◌, ◌%◌, ◌≤◌, Bool, true, false, cond, eqb, leb, List, [], ◌∷◌, length, set, refl, sym, ap, subst, ◌∙◌, arith, slice_index, None, Some, ne_eqb, eq-eqb, eqb-true, le-ltb, Contains, slice_get, slice_get_past, and_parts, some, get_elem?, Name, Value, Node, Change, Operand, Command, Num, Nil, Mov, Get, Set, Cas, Update, Force, Push, Pop, Deref, Finalise, NextFin, Show, Same, Yield, Collect, Full, Reply, Fine, Yes, No, Given, NoPointer, NoField, WrongKind, NotOwner, Fixed, Nothing, MutatorState, World, state_of, node_of, given_or, field_read, field_set, is_same, exchanged_at, field_exchanged, thunk_updated, result_read, value_read, weak_finalised, stack_pushed, stack_popped, changed, change_into, holding_given, with_state, value_for, object_of, read_object, read_into, keeping, change_object, with_register, with_node, step, field_held, if_same, free_held, top_held, weak_held, value_held, owed_in, owed_of, names_among, owed_by, header_word, name_word, IsName, Header, header_of, Place, Means, ListMeans, Hand, holding, leaves, Answer, plain, word, Opening, Part, Seen, FixedWord, hand_now, answered, doing, done_by, Object, place_of, IsObject, IsIn, now, Answers, IsHand, Fits, Rests, Keeps, IsMutator, CanGive, Names, IsReadable, IsWritable, operand_word, header_at, get_refusal, set_refusal, owner_refusal, first_answer, refused, known_answer, IsRefused, IsForeign, CanAnswer, known, AddsCommand, nodes_kept, node_cases, state_same, tested_same, is_same_name-refl, contains_head, contains_tail, contains_cases, both, ◌&&◌}
+use Rattle.nmgc_round.proofs.Vocabulary.{◌≡◌, ◌<◌, ◌⊎◌, drop, inl, inr, ℕ, ◌+◌, ◌*◌, ◌/◌, ◌%◌, ◌≤◌, Bool, true, false, cond, eqb, leb, List, [], ◌∷◌, length, set, refl, sym, ap, subst, ◌∙◌, arith, slice_index, None, Some, ne_eqb, eq-eqb, eqb-true, le-ltb, Contains, slice_get, slice_get_past, and_parts, some, get_elem?, Name, Value, Node, Change, Operand, Command, Num, Nil, Mov, Get, Tag, Set, Cas, Update, Force, Push, Pop, Deref, Finalise, NextFin, Show, Same, Yield, Collect, Full, Reply, Fine, Yes, No, Given, NoPointer, NoField, WrongKind, NotOwner, Fixed, Nothing, MutatorState, World, state_of, node_of, given_or, field_read, tag_read, field_set, is_same, exchanged_at, field_exchanged, thunk_updated, result_read, value_read, weak_finalised, stack_pushed, stack_popped, changed, change_into, holding_given, with_state, value_for, object_of, read_object, read_into, keeping, change_object, with_register, with_node, step, field_held, if_same, free_held, top_held, weak_held, value_held, owed_in, owed_of, names_among, owed_by, header_word, name_word, IsName, Header, header_of, Place, Means, ListMeans, Hand, holding, leaves, Answer, plain, word, Opening, Part, Seen, FixedWord, hand_now, answered, doing, done_by, Object, place_of, IsObject, IsIn, now, Answers, IsHand, Fits, Rests, Keeps, IsMutator, CanGive, Names, IsReadable, IsWritable, operand_word, header_at, get_refusal, set_refusal, owner_refusal, first_answer, refused, known_answer, IsRefused, IsForeign, CanAnswer, known, AddsCommand, nodes_kept, node_cases, state_same, tested_same, is_same_name-refl, contains_head, contains_tail, contains_cases, both, ◌&&◌}
 use Rattle.nmgc_world_spec.specs.declared.command.Command.TheVariants.{Con, Var, Arr, Thunk, Weak, Stack}
 use Rattle.nmgc_world_spec.specs.declared.value.Value.TheVariants as value
 use Rattle.nmgc_world_spec.specs.declared.node.Node.TheVariants as node
 use Rattle.nmgc_world_spec.specs.declared.change.Change.TheVariants as change
+use Rattle.nmgc_world_spec.specs.declared.node.Kind.{Kind}
 use Rattle.nmgc_world_spec.specs.declared.node.Kind.TheVariants as kind
+use Rattle.nmgc_object.specs.Words.{HasTag, IsHeader, kind_number}
+use Rattle.nmgc_round.specs.laws.Tags.{tag_none, tag_there, tag_wrong}
 use Rattle.nmgc_round.proofs.{Lists.list_set, Moves.register_hand, Moves.hand_kept, Moves.meant, Moves.operand_is, Writes.still_law, Frames.node_frame, Standing.placed, Keeping.acts}
+
+-- `tag` of an object
+step_tag : (w : World) (m dest : ℕ) (object : Operand) (name : Name) (found : Node) → value_for w m object ≡ value.Ref name →
+    node_of w name ≡ Some found → step w m (Tag dest object) ≡ change_into m dest (w, tag_read found)
+step_tag w m dest object name found is there = rw (is, there) refl
 
 -- a field that doesn't exist, or may not be read
 get_refused : (n : Node) (index : ℕ) → (IsReadable (header_of n).kind → (header_of n).fields ≤ index) →
@@ -273,6 +281,67 @@ module _ (o : Opening) (words : List ℕ) (views : List Seen) (h : Keeps o words
       let read : Node → Reply = λ n. field_read n index in
       let does : step W p.number c ≡ (W, r) = cc (m.refers, st.there, refuses, keeping_refused W p.number dest (leb (header_word header % 8) 3)) in
       answer_same c r (plain r) (refused_there (operand_word o p object) at header get_refusal e names) gives does refl refl refl
+
+  -- `tag` of an object: a constructor has its tag, and any other object refuses
+  tag_other : (dest : ℕ) (object : Operand) (at : ℕ) (header : Header) (name : Name) (n : Node) → CanGive o p (Tag dest object) →
+      operand_word o p object ≡ 2 * at → header_at p.fixed at ≡ header_word header → value_for W p.number object ≡ value.Ref name →
+      node_of W name ≡ Some n → tag_read n ≡ WrongKind → (kind_number header.kind ≡ 1 → ⊥) → kind_number header.kind < 8 →
+      AddsCommand o words views h p.number (Tag dest object) words (set views id (known v (Tag dest object)))
+  tag_other dest object at header name n gives e found refers there wrong other few =
+      let says : step W p.number (Tag dest object) ≡ (W, WrongKind) =
+      step_tag W p.number dest object name n refers there ∙ ap (λ (r : Reply). change_into p.number dest (W, r)) wrong in
+      answer_same (Tag dest object) WrongKind (plain WrongKind) (tag_wrong p.fixed (operand_word o p object) at header e found other few) gives says
+      refl refl refl
+
+  tag_by_node : (dest : ℕ) (object : Operand) (at : ℕ) (header : Header) (name : Name) (n : Node) → CanGive o p (Tag dest object) →
+      operand_word o p object ≡ 2 * at → header_at p.fixed at ≡ header_word header → IsHeader header → value_for W p.number object ≡ value.Ref name →
+      node_of W name ≡ Some n → header_of n ≡ header → AddsCommand o words views h p.number (Tag dest object) words (set views id (known v (Tag dest object)))
+  tag_by_node dest object at header name (node.Con tag values) gives e found valid refers there head =
+      let c : Command = Tag dest object in
+      let con : header.kind ≡ kind.Con = sym (ap (λ (k : Header). k.kind) head) in
+      let same : header.tag ≡ tag = sym (ap (λ (k : Header). k.tag) head) in
+      let small : header.tag < 256 = subst (λ (k : Kind). HasTag k header.tag) con valid.0 in
+      let shows : known_answer (hand_now o p) p.fixed c ≡ word (2 * tag + 3) =
+      tag_there p.fixed (operand_word o p object) at header e found con small ∙ ap (λ t. word (2 * t + 3)) same in
+      let does : step W p.number c ≡ (with_register W p.number dest (value.Number tag), Given (value.Number tag)) =
+      step_tag W p.number dest object name (node.Con tag values) refers there in
+      place_in_order c (Given (value.Number tag)) (word (2 * tag + 3)) (with_register W p.number dest (value.Number tag)) shows gives does
+      (nodes_kept W p.number _ fits.exists refl) refl (value.Number tag, refl, refl)
+      (register_hand o words views h id v here p is dest (2 * tag + 3) (value.Number tag) refl) refl
+  tag_by_node dest object at header name (node.Var x) gives e found valid refers there head =
+      let k : kind_number header.kind ≡ 2 = sym (ap (λ (k : Header). kind_number k.kind) head) in
+      tag_other dest object at header name (node.Var x) gives e found refers there refl (λ z. omega (arith, k, z)) (omega (arith, k))
+  tag_by_node dest object at header name (node.Arr values) gives e found valid refers there head =
+      let k : kind_number header.kind ≡ 3 = sym (ap (λ (k : Header). kind_number k.kind) head) in
+      tag_other dest object at header name (node.Arr values) gives e found refers there refl (λ z. omega (arith, k, z)) (omega (arith, k))
+  tag_by_node dest object at header name (node.Thunk free result) gives e found valid refers there head =
+      let k : kind_number header.kind ≡ 4 = sym (ap (λ (k : Header). kind_number k.kind) head) in
+      tag_other dest object at header name (node.Thunk free result) gives e found refers there refl (λ z. omega (arith, k, z)) (omega (arith, k))
+  tag_by_node dest object at header name (node.Weak parts) gives e found valid refers there head =
+      let k : kind_number header.kind ≡ 5 = sym (ap (λ (k : Header). kind_number k.kind) head) in
+      tag_other dest object at header name (node.Weak parts) gives e found refers there refl (λ z. omega (arith, k, z)) (omega (arith, k))
+  tag_by_node dest object at header name (node.Stack size values) gives e found valid refers there head =
+      let k : kind_number header.kind ≡ 6 = sym (ap (λ (k : Header). kind_number k.kind) head) in
+      tag_other dest object at header name (node.Stack size values) gives e found refers there refl (λ z. omega (arith, k, z)) (omega (arith, k))
+
+  tag_known : (dest : ℕ) (object : Operand) → CanGive o p (Tag dest object) → IsRefused o p object (λ header. Unit {0}) →
+      AddsCommand o words views h p.number (Tag dest object) words (set views id (known v (Tag dest object)))
+  tag_known dest object gives (inl odd) =
+      let c : Command = Tag dest object in
+      let none : step W p.number c ≡ (W, NoPointer) =
+      elim (no_object (operand_word o p object) (value_for W p.number object) (operand_is o words views h id v here p is object) odd) [
+        | inl e ↦ ap (λ y. read_into W p.number dest (read_object (object_of W y) tag_read)) e
+        | inr e ↦ ap (λ y. read_into W p.number dest (read_object (object_of W y) tag_read)) e.1
+      ] in
+      answer_same c NoPointer (plain NoPointer) (tag_none p.fixed (operand_word o p object) odd) gives none refl refl refl
+  tag_known dest object gives (inr (at, header, e, names, any)) =
+      let m = meant o words views h id v here p is at header object e names in
+      let st = h.stands.objects m.object m.there in
+      let head : header_of st.node ≡ header = st.later.header ∙ m.head in
+      let there = rests.fixed (record { at = at; offset = 0; word = header_word header }) names.there in
+      let found : header_at p.fixed at ≡ header_word header = header_there p.fixed at (header_word header) (λ f c a z. let t = rests.fixed f c in
+      sym t.1 ∙ ap (λ j. slice_index words j) (λ i. a i + z i) ∙ there.1) names.there in
+      tag_by_node dest object at header m.object.name st.node gives e found names.valid m.refers st.there head
 
   -- `set` likewise
   set_known : (object : Operand) (index : ℕ) (x : Operand) → CanGive o p (Set object index x) →
@@ -560,6 +629,7 @@ module _ (o : Opening) (words : List ℕ) (views : List Seen) (h : Keeps o words
   known_keeps (Mov dest x) can =
       answer_register (Mov dest x) dest (operand_word o p x) (value_for W p.number x) refl can.gives refl refl refl (operand_is o words views h id v here p is x)
   known_keeps (Get dest object index) can = get_known dest object index can.gives can.known
+  known_keeps (Tag dest object) can = tag_known dest object can.gives can.known
   known_keeps (Set object index x) can = set_known object index x can.gives can.known
   known_keeps (Show x) can =
       answer_same (Show x) (Given (value_for W p.number x)) (word (operand_word o p x)) refl can.gives refl refl (

@@ -9,8 +9,8 @@ pub use Rattle.nmgc_round.specs.{Added.AddsCommand, Added.AddsIfMet, Added.AddsS
 pub use Rattle.nmgc_round.specs.{declared.table.Round.Round, laws.Common.folded_more, laws.Common.found_at, laws.Common.leave_more, laws.Common.marks_if, laws.Common.same_count, laws.Common.some_at, laws.Gathering.same_opening, laws.Slots.slots_other, laws.Slots.slots_same}
 pub use Rattle.nmgc_snapshot_laws.specs.{Machine.Does, Machine.IsPossible, Machine.advanced, Machine.after_command, Machine.after_scan, Scan.field_at, Scan.fields_of, Scan.is_last, Scan.moved_on, Scan.read_at, State.State, State.entry_of, State.is_listed, State.is_new, State.mark_read, State.names_of, State.with_mark, declared.event.Entry.Entry, laws.Listed.is_same_name-refl, laws.Listed.names_other, laws.Listed.names_same, laws.Listed.tested_same}
 pub use Rattle.nmgc_world_laws.specs.{Holds.has_result, laws.Growth.step_grows, laws.NewWorlds.new_is_world, laws.NewWorlds.new_nodes, laws.NodeLaws.as_many, laws.NodeLaws.maker_there, laws.NodeLaws.next_is_new, laws.NodeLaws.node_born, laws.NodeLaws.node_cases, laws.NodeLaws.node_same, laws.NodeLaws.nodes_kept, laws.NodeLaws.own_node, laws.NodeLaws.state_other, laws.NodeLaws.state_same, laws.WorldSteps.change_count}
-pub use Rattle.nmgc_world_spec.specs.{World.changed, World.exchanged_at, World.field_exchanged, World.field_read, World.field_set, World.is_same, World.is_same_name, World.last_of, World.result_read, World.stack_popped, World.stack_pushed, World.thunk_updated, World.value_read, World.weak_finalised, World.words_made, World.born, World.change_into, World.change_object, World.keeping, World.next_name, World.object_of, World.shared_name, World.step, World.value_for, World.value_of, World.with_node, World.with_register, World.with_state, World.World, World.new_mutator, World.new_world, World.no_mutator, World.node_of, World.serial_of, World.state_of, Pieces.given_or, Pieces.without_last, Known.IsMaking, Reach.IsLegal as IsLegalHistory, Reach.Row, Reach.replayed, Reach.rows_of, Reach.field_held, Reach.names_among, Reach.owed_by, Reach.owed_in, Reach.owed_of, Reach.IsAlive, Reach.IsReached, Reach.field, Reach.start, Reach.strong_fields, Reach.IsOfWeak, Reach.IsWide, Pieces.free_held, Pieces.if_same, Pieces.top_held, Pieces.value_held, Pieces.weak_held, Pieces.change_node, Pieces.holding as world_holding, Pieces.holding_given, Pieces.read_into, Pieces.read_object, Pieces.with_new, Pieces.with_nth, Pieces.IsWideRoot, Known.IsNodeOf, Known.IsSized}
-pub use Rattle.nmgc_world_spec.specs.declared.{change.Change.Change, command.Command.Command, command.Command.TheVariants.Cas, command.Command.TheVariants.Collect, command.Command.TheVariants.Deref, command.Command.TheVariants.Finalise, command.Command.TheVariants.Force, command.Command.TheVariants.Full, command.Command.TheVariants.Get, command.Command.TheVariants.Mov, command.Command.TheVariants.NextFin, command.Command.TheVariants.Nil, command.Command.TheVariants.Num, command.Command.TheVariants.Pop, command.Command.TheVariants.Push, command.Command.TheVariants.Same, command.Command.TheVariants.Set, command.Command.TheVariants.Show, command.Command.TheVariants.Update, command.Command.TheVariants.Yield, command.Operand.Operand, command.Operand.TheVariants.Register, command.Operand.TheVariants.Shared, command.Reply.Reply, command.Reply.TheVariants.Fine, command.Reply.TheVariants.Fixed, command.Reply.TheVariants.Given, command.Reply.TheVariants.No, command.Reply.TheVariants.NoField, command.Reply.TheVariants.NoPointer, command.Reply.TheVariants.NotOwner, command.Reply.TheVariants.Nothing, command.Reply.TheVariants.WrongKind, command.Reply.TheVariants.Yes, mutator_state.MutatorState.MutatorState, node.Kind.Kind, node.Node.Node, node.Node.TheVariants.Arr, node.Node.TheVariants.Con, node.Node.TheVariants.Stack, node.Node.TheVariants.Thunk, node.Node.TheVariants.Var, node.Node.TheVariants.Weak, node.Parts.Parts, value.Name.Name, value.Value.Value}
+pub use Rattle.nmgc_world_spec.specs.{World.changed, World.exchanged_at, World.field_exchanged, World.field_read, World.field_set, World.is_same, World.is_same_name, World.last_of, World.result_read, World.stack_popped, World.stack_pushed, World.tag_read, World.thunk_updated, World.value_read, World.weak_finalised, World.words_made, World.born, World.change_into, World.change_object, World.keeping, World.next_name, World.object_of, World.shared_name, World.step, World.value_for, World.value_of, World.with_node, World.with_register, World.with_state, World.World, World.new_mutator, World.new_world, World.no_mutator, World.node_of, World.serial_of, World.state_of, Pieces.given_or, Pieces.without_last, Known.IsMaking, Reach.IsLegal as IsLegalHistory, Reach.Row, Reach.replayed, Reach.rows_of, Reach.field_held, Reach.names_among, Reach.owed_by, Reach.owed_in, Reach.owed_of, Reach.IsAlive, Reach.IsReached, Reach.field, Reach.start, Reach.strong_fields, Reach.IsOfWeak, Reach.IsWide, Pieces.free_held, Pieces.if_same, Pieces.top_held, Pieces.value_held, Pieces.weak_held, Pieces.change_node, Pieces.holding as world_holding, Pieces.holding_given, Pieces.read_into, Pieces.read_object, Pieces.with_new, Pieces.with_nth, Pieces.IsWideRoot, Known.IsNodeOf, Known.IsSized}
+pub use Rattle.nmgc_world_spec.specs.declared.{change.Change.Change, command.Command.Command, command.Command.TheVariants.Cas, command.Command.TheVariants.Collect, command.Command.TheVariants.Deref, command.Command.TheVariants.Finalise, command.Command.TheVariants.Force, command.Command.TheVariants.Full, command.Command.TheVariants.Get, command.Command.TheVariants.Mov, command.Command.TheVariants.NextFin, command.Command.TheVariants.Nil, command.Command.TheVariants.Num, command.Command.TheVariants.Pop, command.Command.TheVariants.Push, command.Command.TheVariants.Same, command.Command.TheVariants.Set, command.Command.TheVariants.Show, command.Command.TheVariants.Tag, command.Command.TheVariants.Update, command.Command.TheVariants.Yield, command.Operand.Operand, command.Operand.TheVariants.Register, command.Operand.TheVariants.Shared, command.Reply.Reply, command.Reply.TheVariants.Fine, command.Reply.TheVariants.Fixed, command.Reply.TheVariants.Given, command.Reply.TheVariants.No, command.Reply.TheVariants.NoField, command.Reply.TheVariants.NoPointer, command.Reply.TheVariants.NotOwner, command.Reply.TheVariants.Nothing, command.Reply.TheVariants.WrongKind, command.Reply.TheVariants.Yes, mutator_state.MutatorState.MutatorState, node.Kind.Kind, node.Node.Node, node.Node.TheVariants.Arr, node.Node.TheVariants.Con, node.Node.TheVariants.Stack, node.Node.TheVariants.Thunk, node.Node.TheVariants.Var, node.Node.TheVariants.Weak, node.Parts.Parts, value.Name.Name, value.Value.Value}
 pub use Rattle.nmgc_world_spec.specs.laws.{Common.name_itself, Orders.name_cases, Orders.same_name}
 pub use Rattle.std.proofs.Common.{All, Bool, List, None, Option, Some, [], ap, append-nil, append_assoc, arith, cond, drop, drop-cons, eq-eqb, eqb, eqb-true, false, get_or, get_or-set_other, get_or-set_same, inl, inr, is_some, le-ltb, leb, leb-false, length, length-append, length-set, lt-ltb, map, mul-le-mul_right, ne_eqb, not, refl, replicate, set, set-set, slice_index, subst, suc, sym, take, true, true≢false, zero, ℕ, ⊎_elim, ◌%◌, ◌&&◌, ◌*◌, ◌++◌, ◌+◌, ◌-◌, ◌/◌, ◌<◌, ◌==◌, ◌^◌, ◌||◌, ◌∙◌, ◌∷◌, ◌≡◌, ◌≢◌, ◌≤◌, ◌⊎◌}
 pub use Rattle.std.proofs.lemmas.{Bool.and_parts, Bool.cases_eq, Bool.cases_lt, Bool.Decides.eqb_tells, List.get_or_past, List.length-map, List.length-replicate, List.Elements.All-append, List.Elements.All-cons, List.Elements.All-get_or, List.Elements.All-nil, List.Elements.All-replicate, List.Elements.Contains-append_cases, List.Elements.Contains-append_left, List.Elements.Contains-append_right, List.Elements.Contains-push, List.Elements.Contains-push_cases, Option.slice_get-get_or, Option.slice_get_past, Option.slice_get_within}

@@ -5,9 +5,9 @@
 use Rattle.std.specs.Prelude.{◌≡◌, ◌≢◌, ◌⊎◌, ℕ, zero, suc, ◌+◌, ◌<◌, ◌*◌, ◌/◌, ◌%◌, ◌≤◌, ◌==◌, ◌&&◌, nat_le, List, [], ◌∷◌, Contains, Some, slice_get, if◌then◌else◌}
 use Rattle.nmgc_world_spec.specs.{declared.value.Name.Name, declared.node.Node.Node, declared.command.Operand.Operand, declared.command.Command.Command, declared.command.Reply.Reply, World.node_of}
 use Rattle.nmgc_world_spec.specs.declared.node.Kind.TheVariants as kind
-use Rattle.nmgc_world_spec.specs.declared.command.Command.TheVariants.{Num, Nil, Mov, Get, Set, Cas, Update, Force, Push, Pop, Deref, Finalise, NextFin, Show, Same, Yield, Collect, Full}
+use Rattle.nmgc_world_spec.specs.declared.command.Command.TheVariants.{Num, Nil, Mov, Get, Tag, Set, Cas, Update, Force, Push, Pop, Deref, Finalise, NextFin, Show, Same, Yield, Collect, Full}
 use Rattle.nmgc_world_spec.specs.declared.command.Reply.TheVariants.{Fine, Yes, No, NoPointer, NoField, WrongKind, NotOwner, Fixed, Nothing}
-use Rattle.nmgc_object.specs.{Words.kind_number, Words.header_word, Words.name_word, Words.IsHeader, Words.IsName, Words.word_total, declared.words.Header.Header, declared.words.TheConstants.TAG_UNIT, declared.size.TheConstants.HEADER_WORDS, declared.layout.TheConstants.SHARED_PLACE}
+use Rattle.nmgc_object.specs.{Words.kind_number, Words.header_word, Words.name_word, Words.IsHeader, Words.IsName, Words.word_total, declared.words.Header.Header, declared.words.TheConstants.TAG_UNIT, declared.words.TheConstants.TAGS, declared.words.TheConstants.ZERO_WORD, declared.size.TheConstants.HEADER_WORDS, declared.layout.TheConstants.SHARED_PLACE}
 use Rattle.nmgc_snapshot_laws.specs.declared.event.Entry.{Entry}
 use Rattle.nmgc_heap_spec.specs.{Changes.MayChange, Objects.header_of, Objects.size_of}
 use Rattle.nmgc_round.specs.{Marking.marks_after, Ready.CanGive, Ready.CanLoad, Ready.Names, Ready.IsReadable, Ready.IsWritable, Ready.operand_word, Ready.first_of}
@@ -38,9 +38,18 @@ first_answer (w ∷ ws) = word w
 abbrev pub refused : List FixedWord → ℕ → (ℕ → Reply) → Answer
 refused fixed w refusal = if w % 2 == 0 then plain (refusal (header_at fixed (w / 2))) else plain NoPointer
 
+-- the answer of `tag` by a header word: a constructor's tag as a number, or a refusal
+abbrev pub tag_answer : ℕ → Answer
+tag_answer header = if header % TAG_UNIT == kind_number kind.Con then word (2 * (header / TAG_UNIT % TAGS) + ZERO_WORD) else plain WrongKind
+
+-- the answer of `tag` at the object to which a word refers, if it refers to one
+abbrev pub tag_at : List FixedWord → ℕ → Answer
+tag_at fixed w = if w % 2 == 0 then tag_answer (header_at fixed (w / 2)) else plain NoPointer
+
 -- the answer of a command whose position is the load of the header of g
 abbrev pub known_answer : Hand → List FixedWord → Command → Answer
 known_answer h fixed (Get dest object index) = refused fixed (word_of h.registers object) get_refusal
+known_answer h fixed (Tag dest object) = tag_at fixed (word_of h.registers object)
 known_answer h fixed (Set object index v) = refused fixed (word_of h.registers object) set_refusal
 known_answer h fixed (Cas object index expected v) = refused fixed (word_of h.registers object) set_refusal
 known_answer h fixed (Update object v) = refused fixed (word_of h.registers object) (λ header. WrongKind)
@@ -54,7 +63,8 @@ known_answer h fixed (Show v) = word (word_of h.registers v)
 known_answer h fixed (Same left right) = plain (if word_of h.registers left == word_of h.registers right then Yes else No)
 known_answer h fixed _ = plain Fine
 
--- an operand that is refused: its word is no pointer, or its object's header doesn't fit the command
+-- an operand that is refused: its word is no pointer, or its object's header doesn't fit the command. For `tag`, which reads
+-- the header alone, each header is as good
 abbrev pub IsRefused : Opening → Part → Operand → (Header → Type 0) → Type 0
 IsRefused o p object bad = (operand_word o p object % 2 ≡ 1) ⊎
     ((at : ℕ) × (header : Header) × (operand_word o p object ≡ 2 * at) × Names p at header × bad header)
@@ -77,6 +87,7 @@ TakesPlace o p (Num dest n) = Unit {0}
 TakesPlace o p (Nil dest) = Unit {0}
 TakesPlace o p (Mov dest v) = Unit {0}
 TakesPlace o p (Get dest object index) = IsRefused o p object (λ header. IsReadable header.kind → header.fields ≤ index)
+TakesPlace o p (Tag dest object) = IsRefused o p object (λ header. Unit {0})
 TakesPlace o p (Set object index v) = IsRefused o p object (λ header. IsWritable header.kind → header.fields ≤ index)
 TakesPlace o p (Cas object index expected v) = IsRefused o p object (λ header. IsWritable header.kind → header.fields ≤ index)
 TakesPlace o p (Update object v) = IsRefused o p object (λ header. header.kind ≡ kind.Thunk → ⊥)

@@ -1,4 +1,5 @@
 pub mod Common
 pub mod Gathering
 pub mod Slots
+pub mod Tags
 mod Vocabulary

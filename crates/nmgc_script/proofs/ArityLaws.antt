@@ -1,7 +1,7 @@
 -- A verb is read with n tokens exactly if a command of its name has n tokens.
-use Rattle.nmgc_script.proofs.Vocabulary.{◌≡◌, ◌≤◌, ◌+◌, ◌-◌, ℕ, zero, suc, List, [], ◌∷◌, length, refl, sym, ap, subst, ◌∙◌, arith, codes, Result, Ok, AllByRecursion, length-map, All-from_recursion, Operand, Shared, Command, Num, Nil, Mov, Con, Var, Arr, Thunk, Weak, Stack, Get, Set, Cas, Update, Force, Push, Pop, Deref, Finalise, NextFin, Show, Same, Yield, Collect, Full, IsOperandBelow, HasRegistersBelow, HasNumbers, Cause, Verb, Version, IsUsable, operand_word, verb_name, command_words, first_of, HasArity, verb_at, operands_at}
+use Rattle.nmgc_script.proofs.Vocabulary.{◌≡◌, ◌≤◌, ◌+◌, ◌-◌, ℕ, zero, suc, List, [], ◌∷◌, length, refl, sym, ap, subst, ◌∙◌, arith, codes, Result, Ok, AllByRecursion, length-map, All-from_recursion, Operand, Shared, Command, Num, Nil, Mov, Con, Var, Arr, Thunk, Weak, Stack, Get, Tag, Set, Cas, Update, Force, Push, Pop, Deref, Finalise, NextFin, Show, Same, Yield, Collect, Full, IsOperandBelow, HasRegistersBelow, HasNumbers, Cause, Verb, Version, IsUsable, operand_word, verb_name, command_words, first_of, HasArity, named_at, has_verb, IsSince, true, le-leb, leb-true, operands_at}
 use Rattle.nmgc_script.specs.declared.verbs.Verb.TheVariants as verb
-use Rattle.nmgc_script.proofs.{WordLaws.ok_is, VerbLaws.verb_again, CommandLaws.words_read, CauseLaws.HasCount, CauseLaws.CausesArity, CauseLaws.operands_cause}
+use Rattle.nmgc_script.proofs.{WordLaws.ok_is, VerbLaws.named_again, CommandLaws.words_read, CauseLaws.HasCount, CauseLaws.CausesArity, CauseLaws.operands_cause}
 
 -- a reading that doesn't fail has the right number of tokens
 pub right_of : (P : Type 0) (c : Command) (r : Result Command Cause) → r ≡ Ok c → CausesArity r P → P
@@ -13,7 +13,7 @@ pub count_of : (ver : Version) (usable : IsUsable ver) (v : Verb) (c : Command) 
 count_of ver usable v c registers numbers named =
     let r = words_read ver usable c registers numbers in
     let name : verb_name r.0 ≡ verb_name v = sym (ap first_of r.2) ∙ named in
-    let same : r.0 ≡ v = ok_is {E = Cause} r.0 v (sym (verb_again r.0) ∙ ap verb_at name ∙ verb_again v) in
+    let same : r.0 ≡ v = ok_is {E = Cause} r.0 v (sym (named_again r.0) ∙ ap named_at name ∙ named_again v) in
     let count : HasCount r.0 (length (verb_name r.0 ∷ r.1)) =
     right_of (HasCount r.0 (length (verb_name r.0 ∷ r.1))) c (operands_at ver r.0 r.1) r.3 (operands_cause ver usable r.0 (verb_name r.0) r.1) in
     subst (λ (n : ℕ). HasCount v n) (sym (ap length r.2)) (subst (λ (k : Verb). HasCount k (length (verb_name r.0 ∷ r.1))) same count)
@@ -69,6 +69,7 @@ count_some ver usable verb.Thunk n h = thunk_some ver usable (n - 2) n (omega (a
 count_some ver usable verb.Weak n h = (Weak 0 Shared Shared Shared, (omega (arith, usable.some_register), tt, tt, tt), tt, refl, sym h)
 count_some ver usable verb.Stack n h = (Stack 0 0, omega (arith, usable.some_register), omega arith, refl, sym h)
 count_some ver usable verb.Get n h = (Get 0 Shared 0, (omega (arith, usable.some_register), tt), omega arith, refl, sym h)
+count_some ver usable verb.Tag n h = (Tag 0 Shared, (omega (arith, usable.some_register), tt), tt, refl, sym h)
 count_some ver usable verb.Set n h = (Set Shared 0 Shared, (tt, tt), omega arith, refl, sym h)
 count_some ver usable verb.Cas n h = (Cas Shared 0 Shared Shared, (tt, tt, tt), omega arith, refl, sym h)
 count_some ver usable verb.Update n h = (Update Shared Shared, (tt, tt), tt, refl, sym h)
@@ -96,6 +97,7 @@ named_command verb.Thunk = (Thunk 0 [], refl)
 named_command verb.Weak = (Weak 0 Shared Shared Shared, refl)
 named_command verb.Stack = (Stack 0 0, refl)
 named_command verb.Get = (Get 0 Shared 0, refl)
+named_command verb.Tag = (Tag 0 Shared, refl)
 named_command verb.Set = (Set Shared 0 Shared, refl)
 named_command verb.Cas = (Cas Shared 0 Shared Shared, refl)
 named_command verb.Update = (Update Shared Shared, refl)
@@ -123,6 +125,7 @@ named_verb (Thunk a b) = (verb.Thunk, refl)
 named_verb (Weak a b c d) = (verb.Weak, refl)
 named_verb (Stack a b) = (verb.Stack, refl)
 named_verb (Get a b c) = (verb.Get, refl)
+named_verb (Tag a b) = (verb.Tag, refl)
 named_verb (Set a b c) = (verb.Set, refl)
 named_verb (Cas a b c d) = (verb.Cas, refl)
 named_verb (Update a b) = (verb.Update, refl)
@@ -137,3 +140,14 @@ named_verb (Same a b) = (verb.Same, refl)
 named_verb Yield = (verb.Yield, refl)
 named_verb Collect = (verb.Collect, refl)
 named_verb Full = (verb.Full, refl)
+
+-- a version that has the command has its verb, and the other way round
+pub since_verb : (ver : Version) (c : Command) → IsSince ver.number c → has_verb ver (named_verb c).0 ≡ true
+unfolding named_verb
+since_verb ver (Tag dest object) since = le-leb 3 ver.number since
+since_verb ver _ since = refl
+
+pub since_command : (ver : Version) (v : Verb) → has_verb ver v ≡ true → IsSince ver.number (named_command v).0
+unfolding named_command
+since_command ver verb.Tag has = leb-true 3 ver.number has
+since_command ver _ has = tt

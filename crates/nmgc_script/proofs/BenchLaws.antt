@@ -1,5 +1,5 @@
 -- The bench's script is within the limits, and its programs are short.
-use Rattle.nmgc_script.proofs.Vocabulary.{◌≡◌, ◌≤◌, ◌<◌, ◌∙◌, ℕ, zero, suc, ◌+◌, ◌*◌, List, [], ◌∷◌, ◌++◌, length, refl, arith, add-one, lit<, lit≤, length-append, ap, append_assoc, length-replicate, All-append, All-cons, All-nil, All-replicate, All, replicate, most_script_bytes, Fits, HasRegistersBelow, IsOperand, IsOperandBelow, Command, Nil, Set, Register, Shared, FitsScript, HasFewCommands, most_batches, list_cells, cell, batch, repeated, bench_program, bench_script, bench_sizes_fit}
+use Rattle.nmgc_script.proofs.Vocabulary.{◌≡◌, ◌≤◌, ◌<◌, ◌∙◌, ℕ, zero, suc, ◌+◌, ◌*◌, List, [], ◌∷◌, ◌++◌, length, refl, arith, add-one, lit<, lit≤, length-append, ap, append_assoc, length-replicate, All-append, All-cons, All-nil, All-replicate, All, replicate, most_script_bytes, Fits, HasRegistersBelow, IsOperand, IsOperandBelow, Command, Nil, Set, Register, Shared, FitsScript, IsOf, version_1, HasFewCommands, most_batches, list_cells, cell, batch, repeated, bench_program, bench_script, bench_sizes_fit}
 
 -- a list once more
 pub once_more : {A : Type 0} (n : ℕ) (xs : List A) → repeated (n + 1) xs ≡ repeated n xs ++ xs
@@ -52,9 +52,9 @@ cell_names = (
       []) (lit< tt) (All-cons (IsOperandBelow 16) (Register 1) [] (lit< tt) (All-nil (IsOperandBelow 16))),
 )
 
-program_names : (batches mutator : ℕ) → All (HasRegistersBelow 16) (bench_program batches mutator)
+program_names : (batches mutator : ℕ) → All (IsOf version_1) (bench_program batches mutator)
 program_names batches mutator =
-    All-repeated (HasRegistersBelow 16) batches (batch mutator) (batch_has (HasRegistersBelow 16) mutator (lit< tt) cell_names (tt, lit< tt))
+    All-repeated (IsOf version_1) batches (batch mutator) (batch_has (IsOf version_1) mutator (lit< tt, tt) (cell_names, tt) ((tt, lit< tt), tt))
 
 length-batch : (mutator : ℕ) → length (batch mutator) ≡ 1026
 length-batch mutator = omega (
@@ -89,7 +89,7 @@ bench_fits batches = record {
   threads = lit≤ tt;
   total = lit≤ tt;
   commands = each_program (λ program. All (Fits 4096) program) batches (λ mutator h. program_fits batches mutator (omega (arith, h)));
-  registers = each_program (λ program. All (HasRegistersBelow 16) program) batches (λ mutator h. program_names batches mutator);
+  of_version = each_program (λ program. All (IsOf version_1) program) batches (λ mutator h. program_names batches mutator);
 }
 
 -- its programs are short

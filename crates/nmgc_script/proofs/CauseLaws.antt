@@ -1,5 +1,5 @@
 -- Which cause reading gives if it fails.
-use Rattle.nmgc_script.proofs.Vocabulary.{◌≡◌, ◌≤◌, ◌-◌, ◌^◌, ◌⊎◌, ℕ, suc, List, [], ◌∷◌, length, refl, sym, ◌∙◌, arith, inl, inr, Bool, true, false, cond, codes, leb, eqb, Result, Ok, Err, bytes_eq, digits_value, le-leb, leb-true, Command, Num, Nil, Mov, Con, Var, Arr, Thunk, Weak, Stack, Get, Set, Cas, Update, Force, Push, Pop, Deref, Finalise, NextFin, Show, Same, Yield, Collect, Full, Cause, Verb, Version, IsUsable, ◌>>=◌, number_at, register_at, operand_at, long_at, short_at, each_at, none_at, one_at, two_at, three_at, four_at, con_at, thunk_at, operands_at}
+use Rattle.nmgc_script.proofs.Vocabulary.{◌≡◌, ◌≤◌, ◌-◌, ◌^◌, ◌⊎◌, ℕ, suc, List, [], ◌∷◌, length, refl, sym, ◌∙◌, arith, inl, inr, Bool, true, false, cond, codes, leb, eqb, Result, Ok, Err, bytes_eq, digits_value, le-leb, leb-true, Command, Num, Nil, Mov, Con, Var, Arr, Thunk, Weak, Stack, Get, Tag, Set, Cas, Update, Force, Push, Pop, Deref, Finalise, NextFin, Show, Same, Yield, Collect, Full, Cause, Verb, Version, IsUsable, ◌>>=◌, number_at, register_at, operand_at, long_at, short_at, each_at, none_at, one_at, two_at, three_at, four_at, con_at, thunk_at, operands_at}
 use Rattle.nmgc_script.specs.declared.fault.Cause.TheVariants as cause
 use Rattle.nmgc_script.specs.declared.verbs.Verb.TheVariants as verb
 use Rattle.nmgc_script.proofs.WordLaws.{FailsBy, fails_choose}
@@ -8,7 +8,7 @@ pub result_cases : {A E : Type 0} (r : Result A E) → ((a : A) × (r ≡ Ok a))
 result_cases (Ok a) = inl (a, refl)
 result_cases (Err e) = inr (e, refl)
 
-fails_then : {A B : Type 0} (c : Cause) (r : Result A Cause) (f : A → Result B Cause) → FailsBy c r → ((a : A) → FailsBy c (f a)) → FailsBy c (r >>= f)
+pub fails_then : {A B : Type 0} (c : Cause) (r : Result A Cause) (f : A → Result B Cause) → FailsBy c r → ((a : A) → FailsBy c (f a)) → FailsBy c (r >>= f)
 fails_then c (Ok a) f h k = k a
 fails_then c (Err e) f h k = h
 
@@ -142,6 +142,7 @@ HasCount verb.Thunk n = (2 ≤ n) × (n ≤ 10)
 HasCount verb.Weak n = n ≡ 5
 HasCount verb.Stack n = n ≡ 3
 HasCount verb.Get n = n ≡ 4
+HasCount verb.Tag n = n ≡ 3
 HasCount verb.Set n = n ≡ 4
 HasCount verb.Cas n = n ≡ 5
 HasCount verb.Update n = n ≡ 3
@@ -181,6 +182,8 @@ operands_cause ver usable verb.Stack name words = made_cause (two_at (register_a
 operands_cause ver usable verb.Get name words = made_cause (three_at (register_at ver) (operand_at ver) short_at words) (λ p.
     Get p.0 p.1 p.2) _ (three_cause (register_at ver) (register_fails ver usable) (operand_at ver) (operand_fails ver usable) short_at
     (number_fails 65535) words)
+operands_cause ver usable verb.Tag name words = made_cause (two_at (register_at ver) (operand_at ver) words) (λ p.
+    Tag p.0 p.1) _ (two_cause (register_at ver) (register_fails ver usable) (operand_at ver) (operand_fails ver usable) words)
 operands_cause ver usable verb.Set name words = made_cause (three_at (operand_at ver) short_at (operand_at ver) words) (λ p.
     Set p.0 p.1 p.2) _ (three_cause (operand_at ver) (operand_fails ver usable) short_at (number_fails 65535) (operand_at ver) (operand_fails ver usable) words)
 operands_cause ver usable verb.Cas name words = made_cause (four_at (operand_at ver) short_at (operand_at ver) (operand_at ver) words) (λ p.

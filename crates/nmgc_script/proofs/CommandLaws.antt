@@ -1,12 +1,12 @@
 -- A command is read exactly from its spelling.
-use Rattle.nmgc_script.proofs.Vocabulary.{◌≡◌, ◌≤◌, ℕ, List, [], ◌∷◌, map, refl, sym, ap, ◌∙◌, subst, decimal, leb, Result, Ok, le-leb, leb-true, All-from_recursion, recursion_from_All, Command, Num, Nil, Mov, Con, Var, Arr, Thunk, Weak, Stack, Get, Set, Cas, Update, Force, Push, Pop, Deref, Finalise, NextFin, Show, Same, Yield, Collect, Full, IsOperandBelow, HasRegistersBelow, HasNumbers, words_made, Fits, Cause, Verb, Version, IsUsable, registers_wider, register_word, operand_word, verb_name, command_words, ◌>>=◌, none_at, operands_at, verb_at, sized, command_at}
+use Rattle.nmgc_script.proofs.Vocabulary.{◌≡◌, ◌≤◌, ℕ, List, [], ◌∷◌, map, refl, sym, ap, ◌∙◌, subst, decimal, leb, Result, Ok, le-leb, leb-true, All-from_recursion, recursion_from_All, Command, Num, Nil, Mov, Con, Var, Arr, Thunk, Weak, Stack, Get, Tag, Set, Cas, Update, Force, Push, Pop, Deref, Finalise, NextFin, Show, Same, Yield, Collect, Full, IsOperandBelow, HasRegistersBelow, HasNumbers, words_made, Fits, Cause, Verb, Version, IsUsable, registers_wider, register_word, operand_word, verb_name, command_words, ◌>>=◌, none_at, operands_at, has_verb, verb_at, first_of, true, IsOf, IsSince, sized, command_at}
 use Rattle.nmgc_script.specs.declared.fault.Cause.TheVariants as cause
 use Rattle.nmgc_script.specs.declared.verbs.Verb.TheVariants as verb
-use Rattle.nmgc_script.proofs.{WordLaws.Reads, WordLaws.bind_ok, WordLaws.guard_ok, WordLaws.ok_is, WordLaws.register_reads, WordLaws.operand_reads, VerbLaws.verb_takes, VerbLaws.verb_again, ShapeLaws.long_reads, ShapeLaws.short_reads, ShapeLaws.one_reads, ShapeLaws.two_reads, ShapeLaws.three_reads, ShapeLaws.four_reads, ShapeLaws.con_reads, ShapeLaws.thunk_reads}
+use Rattle.nmgc_script.proofs.{WordLaws.Reads, WordLaws.bind_ok, WordLaws.guard_ok, WordLaws.ok_is, WordLaws.register_reads, WordLaws.operand_reads, VerbLaws.verb_takes, VerbLaws.verb_again, VerbLaws.verb_since, ShapeLaws.long_reads, ShapeLaws.short_reads, ShapeLaws.one_reads, ShapeLaws.two_reads, ShapeLaws.three_reads, ShapeLaws.four_reads, ShapeLaws.con_reads, ShapeLaws.thunk_reads}
 
 -- a script of the version may have the command if segments have this number of words
 abbrev pub Fit : Version → ℕ → Command → Type 0
-Fit v size c = Fits size c × HasRegistersBelow v.registers c
+Fit v size c = Fits size c × IsOf v c
 
 -- a name and the tokens after it spell the command, whose registers and numbers are within the limits
 abbrev pub Spell : Version → List ℕ → List (List ℕ) → Command → Type 0
@@ -60,6 +60,8 @@ operands_spell ver usable verb.Stack words c e = made_spells ver usable (two_rea
 operands_spell ver usable verb.Get words c e =
     made_spells ver usable (three_reads (register_reads ver usable) (operand_reads ver usable) short_reads) (λ p.
     Get p.0 p.1 p.2) (verb_name verb.Get) (λ p h. (refl, (h.0, h.1), h.2)) words c e
+operands_spell ver usable verb.Tag words c e = made_spells ver usable (two_reads (register_reads ver usable) (operand_reads ver usable)) (λ p.
+    Tag p.0 p.1) (verb_name verb.Tag) (λ p h. (refl, h, tt)) words c e
 operands_spell ver usable verb.Set words c e =
     made_spells ver usable (three_reads (operand_reads ver usable) short_reads (operand_reads ver usable)) (λ p.
     Set p.0 p.1 p.2) (verb_name verb.Set) (λ p h. (refl, (h.0, h.2), h.1)) words c e
@@ -103,14 +105,15 @@ command_takes : (ver : Version) (usable : IsUsable ver) (size : ℕ) (words : Li
 unfolding command_at
 command_takes ver usable size [] c e = absurd cc
 command_takes ver usable size (name ∷ words) c e =
-    let v = bind_ok (verb_at name) _ c e in
+    let v = bind_ok (verb_at ver name) _ c e in
+    let t = verb_takes ver name v.0 v.1 in
     let o = bind_ok (operands_at ver v.0 words) _ c v.2 in
     let z = sized_takes size o.0 c o.2 in
     let spelled : Spell ver (verb_name v.0) words c = subst (Spell ver (verb_name v.0) words) z.0 (operands_spell ver usable v.0 words o.0 o.1) in (
-      rw (verb_takes name v.0 v.1) spelled.0,
+      rw t.0 spelled.0,
       (
         record { registers = registers_wider ver.registers usable.registers c spelled.1; numbers = spelled.2; size = z.1 },
-        spelled.1,
+        (spelled.1, verb_since ver v.0 c t.1 (ap first_of spelled.0)),
       ),
     )
 
@@ -174,6 +177,12 @@ words_read ver usable (Get dest object index) r n = (
   register_word dest ∷ operand_word object ∷ decimal index ∷ [],
   refl,
   made_again (three_reads (register_reads ver usable) (operand_reads ver usable) short_reads) (λ p. Get p.0 p.1 p.2) (dest, object, index) (r.0, r.1, n),
+)
+words_read ver usable (Tag dest object) r n = (
+  verb.Tag,
+  register_word dest ∷ operand_word object ∷ [],
+  refl,
+  made_again (two_reads (register_reads ver usable) (operand_reads ver usable)) (λ p. Tag p.0 p.1) (dest, object) r,
 )
 words_read ver usable (Set object index value) r n = (
   verb.Set,
@@ -242,13 +251,20 @@ words_read ver usable Collect r n = (verb.Collect, [], refl, none_again Collect)
 words_read ver usable Full r n = (verb.Full, [], refl, none_again Full)
 
 command_from : (ver : Version) (usable : IsUsable ver) (size : ℕ) (v : Verb) (words : List (List ℕ)) (c : Command) →
-    operands_at ver v words ≡ Ok c → words_made c ≤ size → command_at ver size (verb_name v ∷ words) ≡ Ok c
+    has_verb ver v ≡ true → operands_at ver v words ≡ Ok c → words_made c ≤ size → command_at ver size (verb_name v ∷ words) ≡ Ok c
 unfolding command_at
-command_from ver usable size v words c e le = rw (verb_again v, e, sized_again size c le) refl
+command_from ver usable size v words c has e le = rw (verb_again ver v has, e, sized_again size c le) refl
+
+-- a version that has the command has the verb that it is read with
+read_since : (ver : Version) (usable : IsUsable ver) (c : Command) (r : HasRegistersBelow ver.registers c) (n : HasNumbers c) → IsSince ver.number c →
+    has_verb ver (words_read ver usable c r n).0 ≡ true
+unfolding words_read
+read_since ver usable (Tag dest object) r n since = le-leb 3 ver.number since
+read_since ver usable _ r n since = refl
 
 pub command_again : (ver : Version) (usable : IsUsable ver) (size : ℕ) (c : Command) → Fit ver size c → command_at ver size (command_words c) ≡ Ok c
-command_again ver usable size c h = let r = words_read ver usable c h.1 h.0.numbers in ap (command_at ver size) r.2 ∙
-    command_from ver usable size r.0 r.1 c r.3 h.0.size
+command_again ver usable size c h = let r = words_read ver usable c h.1.0 h.0.numbers in ap (command_at ver size) r.2 ∙
+    command_from ver usable size r.0 r.1 c (read_since ver usable c h.1.0 h.0.numbers h.1.1) r.3 h.0.size
 
 -- a command is read exactly from its tokens
 pub command_reads : (ver : Version) (usable : IsUsable ver) (size : ℕ) → Reads (command_at ver size) command_words (Fit ver size)

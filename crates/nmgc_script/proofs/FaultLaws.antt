@@ -3,11 +3,11 @@ use Rattle.std.proofs.{Common.◌≡◌, Common.◌≢◌, Common.◌≤◌, Com
 use Rattle.std.specs.Str.{bytes_eq}
 use Rattle.nmgc_world_spec.specs.{declared.command.Command.Command, World.HasRegistersBelow, World.HasNumbers, World.words_made}
 use Rattle.nmgc_io.specs.{Text.tokens_of, Text.spaced, laws.Parts.spaced-tokens_of}
-use Rattle.nmgc_script.specs.{declared.fault.Cause.Cause, declared.fault.ScriptFault.ScriptFault, declared.script.Config.Config, declared.script.Script.Script, declared.version.Version.Version, declared.sections.Entry.Entry, declared.verbs.Verb.Verb, laws.Versions.IsUsable, laws.Versions.usable_version, laws.Versions.registers_wider, Spelling.IsVersion, Spelling.version_1, Spelling.version_2, Spelling.command_words, Spelling.heap_words, Spelling.kept_lines, Spelling.first_of, Spelling.HasArity, Spelling.HasToBegin, Spelling.HasFault, Spelling.order_of, Spelling.IsFirstFault, Spelling.IsFaultless, Spelling.begun_with, Spelling.IsFaultInRest, Spelling.IsFaultFromHeap, Spelling.IsFaultOfText, Spelling.version_3, Parts.total_words, Parts.verb_name, Parts.section_words, Parts.version_words, Parts.end_of, Results.IsFaultOf, Reading.◌>>=◌, Reading.or_cause, Reading.verb_at, Reading.operands_at, Reading.sized, Reading.command_at, Reading.thread_at, Reading.section_at, Reading.is_section, Reading.entry_at, Reading.begun_after, Reading.with_entry, Reading.rest_at, Reading.programs_at, Reading.threads_at, Reading.version_at, Reading.heap_words_at, Reading.numbers_at, Reading.heap_at, Reading.script_at, Reading.at_line, Reading.GivesAt, laws.Lines.tokens_of-line, laws.Lines.heap_line_words, laws.Lines.first_line, laws.Lines.second_line, laws.Lines.third_line}
+use Rattle.nmgc_script.specs.{declared.fault.Cause.Cause, declared.fault.ScriptFault.ScriptFault, declared.script.Config.Config, declared.script.Script.Script, declared.version.Version.Version, declared.sections.Entry.Entry, declared.verbs.Verb.Verb, laws.Versions.IsUsable, laws.Versions.usable_version, laws.Versions.registers_wider, Spelling.IsVersion, Spelling.version_1, Spelling.version_2, Spelling.command_words, Spelling.heap_words, Spelling.kept_lines, Spelling.first_of, Spelling.HasArity, Spelling.HasToBegin, Spelling.HasFault, Spelling.order_of, Spelling.IsFirstFault, Spelling.IsFaultless, Spelling.begun_with, Spelling.IsFaultInRest, Spelling.IsFaultFromHeap, Spelling.IsFaultOfText, Spelling.version_3, Parts.total_words, Parts.verb_name, Parts.section_words, Parts.version_words, Parts.end_of, Results.IsFaultOf, Reading.◌>>=◌, Reading.or_cause, Reading.has_verb, Reading.verb_at, Reading.operands_at, Reading.sized, Reading.command_at, Reading.thread_at, Reading.section_at, Reading.is_section, Reading.entry_at, Reading.begun_after, Reading.with_entry, Reading.rest_at, Reading.programs_at, Reading.threads_at, Reading.version_at, Reading.heap_words_at, Reading.numbers_at, Reading.heap_at, Reading.script_at, Reading.at_line, Reading.GivesAt, laws.Lines.tokens_of-line, laws.Lines.heap_line_words, laws.Lines.first_line, laws.Lines.second_line, laws.Lines.third_line}
 use Rattle.nmgc_script.specs.declared.fault.Cause.TheVariants as cause
 use Rattle.nmgc_script.specs.declared.fault.ScriptFault.TheVariants as script_fault
 use Rattle.nmgc_script.specs.declared.sections.Entry.TheVariants as entry
-use Rattle.nmgc_script.proofs.{WordLaws.FailsBy, WordLaws.fails_choose, WordLaws.bind_ok, WordLaws.ok_is, VerbLaws.verb_takes, VerbLaws.verb_again, VerbLaws.verb_fails, VerbLaws.verb_of_nothing, CommandLaws.Spell, CommandLaws.operands_spell, CommandLaws.sized_takes, CommandLaws.command_again, CauseLaws.result_cases, CauseLaws.fails_is, CauseLaws.HasCount, CauseLaws.CausesArity, CauseLaws.operands_cause, ArityLaws.named_command, ArityLaws.named_verb, ArityLaws.right_of, ArityLaws.count_of, ArityLaws.count_some, ConfigLaws.heap_takes, ConfigLaws.heap_again, SectionLaws.at_line_ok, SectionLaws.thread_reads, SectionLaws.Begins, SectionLaws.section_takes}
+use Rattle.nmgc_script.proofs.{WordLaws.FailsBy, WordLaws.fails_choose, WordLaws.bind_ok, WordLaws.ok_is, VerbLaws.verb_takes, VerbLaws.verb_since, VerbLaws.verb_again, VerbLaws.verb_fails, VerbLaws.verb_of_nothing, CommandLaws.Spell, CommandLaws.operands_spell, CommandLaws.sized_takes, CommandLaws.command_again, CauseLaws.result_cases, CauseLaws.fails_is, CauseLaws.HasCount, CauseLaws.CausesArity, CauseLaws.operands_cause, ArityLaws.named_command, ArityLaws.since_verb, ArityLaws.since_command, ArityLaws.named_verb, ArityLaws.right_of, ArityLaws.count_of, ArityLaws.count_some, ConfigLaws.heap_takes, ConfigLaws.heap_again, SectionLaws.at_line_ok, SectionLaws.thread_reads, SectionLaws.Begins, SectionLaws.section_takes}
 use Rattle.nmgc_lists.specs.laws.Truths.{chosen}
 
 -- the same reading can't give two results
@@ -50,19 +50,19 @@ heap_fails v (name ∷ words) =
 -- THE LINE OF A COMMAND
 
 -- tokens are read as the verb and the tokens after its name
-read_as : (ver : Version) (usable : IsUsable ver) (size : ℕ) (name : List ℕ) (words : List (List ℕ)) (v : Verb) → verb_at name ≡ Ok v →
+read_as : (ver : Version) (usable : IsUsable ver) (size : ℕ) (name : List ℕ) (words : List (List ℕ)) (v : Verb) → verb_at ver name ≡ Ok v →
     command_at ver size (name ∷ words) ≡ (operands_at ver v words >>= λ c. sized size c)
 unfolding command_at
 read_as ver usable size name words v is = rw is refl
 
 -- tokens that spell a command within the limits of registers and numbers are read as this command, before its size is checked
-read_operands : (ver : Version) (usable : IsUsable ver) (name : List ℕ) (words : List (List ℕ)) (v : Verb) (c : Command) → verb_at name ≡ Ok v →
+read_operands : (ver : Version) (usable : IsUsable ver) (name : List ℕ) (words : List (List ℕ)) (v : Verb) (c : Command) → verb_at ver name ≡ Ok v →
     HasRegistersBelow ver.registers c → HasNumbers c → name ∷ words ≡ command_words c → operands_at ver v words ≡ Ok c
 read_operands ver usable name words v c is registers numbers same =
     let whole : command_at ver (words_made c) (name ∷ words) ≡ Ok c = ap (command_at ver (words_made c)) same ∙
     command_again ver usable (words_made c) c (
       record { registers = registers_wider ver.registers usable.registers c registers; numbers = numbers; size = omega arith },
-      registers,
+      (registers, verb_since ver v c (verb_takes ver name v is).1 (sym (verb_takes ver name v is).0 ∙ ap first_of same)),
     ) in
     let b = bind_ok (operands_at ver v words) (λ k. sized (words_made c) k) c (sym (read_as ver usable (words_made c) name words v is) ∙ whole) in
     let s = sized_takes (words_made c) b.0 c b.2 in
@@ -77,8 +77,9 @@ sized_fails size c e is = elim (chosen (leb (words_made c) size) (Ok c) (Err cau
 
 module _ (ver : Version) (usable : IsUsable ver) (h : Config) (n : ℕ) where
   -- a name that no verb has
-  command_fault : (words : List (List ℕ)) → (HasToBegin n words → ⊥) → ((v : Verb) → first_of words ≢ verb_name v) → IsFirstFault ver h n words cause.Command
-  command_fault words apart no_verb = record { here = (apart, λ c same. let v = named_verb c in no_verb v.0 (same ∙ v.1)); none_before = before }
+  command_fault : (words : List (List ℕ)) → (HasToBegin n words → ⊥) → ((v : Verb) → has_verb ver v ≡ true → first_of words ≢ verb_name v) →
+      IsFirstFault ver h n words cause.Command
+  command_fault words apart no_verb = record { here = (apart, λ c since same. let v = named_verb c in no_verb v.0 (since_verb ver c since) (same ∙ v.1)); none_before = before }
     where
       before : (e : Cause) → order_of e < 4 → HasFault ver h n words e → ⊥
       before cause.Version lt f = f
@@ -90,9 +91,9 @@ module _ (ver : Version) (usable : IsUsable ver) (h : Config) (n : ℕ) where
       before cause.Operand lt f = absurd (omega arith)
       before cause.Size lt f = absurd (omega arith)
 
-  arity_fault : (name : List ℕ) (words : List (List ℕ)) (v : Verb) → (HasToBegin n (name ∷ words) → ⊥) → name ≡ verb_name v →
+  arity_fault : (name : List ℕ) (words : List (List ℕ)) (v : Verb) → (HasToBegin n (name ∷ words) → ⊥) → has_verb ver v ≡ true → name ≡ verb_name v →
       (HasCount v (length (name ∷ words)) → ⊥) → IsFirstFault ver h n (name ∷ words) cause.Arity
-  arity_fault name words v apart is wrong = record {
+  arity_fault name words v apart has is wrong = record {
     here = (
       apart,
       (let c = named_command v in (c.0, is ∙ c.1)),
@@ -106,18 +107,18 @@ module _ (ver : Version) (usable : IsUsable ver) (h : Config) (n : ℕ) where
       before cause.Heap lt f = f
       before cause.Thread lt f = apart f.0
       before cause.Total lt f = apart f.0
-      before cause.Command lt f = let c = named_command v in f.1 c.0 (is ∙ c.1)
+      before cause.Command lt f = let c = named_command v in f.1 c.0 (since_command ver v has) (is ∙ c.1)
       before cause.Arity lt f = absurd (omega arith)
       before cause.Operand lt f = absurd (omega arith)
       before cause.Size lt f = absurd (omega arith)
 
   -- a command of the name has this number of tokens
-  right_arity : (name : List ℕ) (words : List (List ℕ)) (v : Verb) → verb_at name ≡ Ok v → HasCount v (length (name ∷ words)) →
+  right_arity : (name : List ℕ) (words : List (List ℕ)) (v : Verb) → verb_at ver name ≡ Ok v → HasCount v (length (name ∷ words)) →
       HasArity ver name (length (name ∷ words))
   right_arity name words v is right = subst (λ (k : List ℕ). HasArity ver k (length (name ∷
-      words))) (sym (verb_takes name v is)) (count_some ver usable v (length (name ∷ words)) right)
+      words))) (sym (verb_takes ver name v is).0) (count_some ver usable v (length (name ∷ words)) right)
 
-  operand_fault : (name : List ℕ) (words : List (List ℕ)) (v : Verb) → (HasToBegin n (name ∷ words) → ⊥) → verb_at name ≡ Ok v →
+  operand_fault : (name : List ℕ) (words : List (List ℕ)) (v : Verb) → (HasToBegin n (name ∷ words) → ⊥) → verb_at ver name ≡ Ok v →
       HasCount v (length (name ∷ words)) → operands_at ver v words ≡ Err cause.Operand → IsFirstFault ver h n (name ∷ words) cause.Operand
   operand_fault name words v apart is right bad = record {
     here = (
@@ -133,12 +134,12 @@ module _ (ver : Version) (usable : IsUsable ver) (h : Config) (n : ℕ) where
       before cause.Heap lt f = f
       before cause.Thread lt f = apart f.0
       before cause.Total lt f = apart f.0
-      before cause.Command lt f = let c = named_command v in f.1 c.0 (verb_takes name v is ∙ c.1)
+      before cause.Command lt f = let c = named_command v in f.1 c.0 (since_command ver v (verb_takes ver name v is).1) ((verb_takes ver name v is).0 ∙ c.1)
       before cause.Arity lt f = f.2 (right_arity name words v is right)
       before cause.Operand lt f = absurd (omega arith)
       before cause.Size lt f = absurd (omega arith)
 
-  size_fault : (name : List ℕ) (words : List (List ℕ)) (v : Verb) (c : Command) → (HasToBegin n (name ∷ words) → ⊥) → verb_at name ≡ Ok v →
+  size_fault : (name : List ℕ) (words : List (List ℕ)) (v : Verb) (c : Command) → (HasToBegin n (name ∷ words) → ⊥) → verb_at ver name ≡ Ok v →
       HasCount v (length (name ∷ words)) → HasRegistersBelow ver.registers c → HasNumbers c → name ∷ words ≡ command_words c →
       h.words < words_made c → IsFirstFault ver h n (name ∷ words) cause.Size
   size_fault name words v c apart is right registers numbers same large = record { here = (apart, (c, registers, numbers, same, large)); none_before = before }
@@ -148,17 +149,17 @@ module _ (ver : Version) (usable : IsUsable ver) (h : Config) (n : ℕ) where
       before cause.Heap lt f = f
       before cause.Thread lt f = apart f.0
       before cause.Total lt f = apart f.0
-      before cause.Command lt f = let c = named_command v in f.1 c.0 (verb_takes name v is ∙ c.1)
+      before cause.Command lt f = let c = named_command v in f.1 c.0 (since_command ver v (verb_takes ver name v is).1) ((verb_takes ver name v is).0 ∙ c.1)
       before cause.Arity lt f = f.2 (right_arity name words v is right)
       before cause.Operand lt f = f.1 c registers numbers same
       before cause.Size lt f = absurd (omega arith)
 
   arity_or_operand : (name : List ℕ) (words : List (List ℕ)) (v : Verb) (e : Cause) (r : Result Command Cause) → r ≡ operands_at ver v words →
-      (HasToBegin n (name ∷ words) → ⊥) → verb_at name ≡ Ok v → CausesArity r (HasCount v (length (name ∷ words))) → r ≡ Err e →
+      (HasToBegin n (name ∷ words) → ⊥) → verb_at ver name ≡ Ok v → CausesArity r (HasCount v (length (name ∷ words))) → r ≡ Err e →
       IsFirstFault ver h n (name ∷ words) e
   arity_or_operand name words v e (Ok c) same apart is agrees bad = absurd cc
   arity_or_operand name words v e (Err d) same apart is agrees bad = elim agrees [
-    | inl p ↦ subst (IsFirstFault ver h n (name ∷ words)) (sym p.0 ∙ err_is {A = Command} d e bad) (arity_fault name words v apart (verb_takes name v is) p.1)
+    | inl p ↦ subst (IsFirstFault ver h n (name ∷ words)) (sym p.0 ∙ err_is {A = Command} d e bad) (arity_fault name words v apart (verb_takes ver name v is).1 (verb_takes ver name v is).0 p.1)
     | inr p ↦ subst (IsFirstFault ver h n (name ∷ words)) (sym p.0 ∙
         err_is {A = Command} d e bad) (operand_fault name words v apart is p.1 (sym same ∙ ap Err p.0))
   ]
@@ -166,16 +167,16 @@ module _ (ver : Version) (usable : IsUsable ver) (h : Config) (n : ℕ) where
   pub command_known : (words : List (List ℕ)) (e : Cause) → (HasToBegin n words → ⊥) → command_at ver h.words words ≡ Err e → IsFirstFault ver h n words e
   unfolding command_at
   command_known [] e apart bad =
-      subst (IsFirstFault ver h n []) (err_is {A = Command} cause.Command e bad) (command_fault [] apart (λ v is.
-      two_results (verb_at []) v cause.Command (ap verb_at is ∙ verb_again v) verb_of_nothing))
+      subst (IsFirstFault ver h n []) (err_is {A = Command} cause.Command e bad) (command_fault [] apart (λ v has is.
+      two_results (verb_at ver []) v cause.Command (ap (verb_at ver) is ∙ verb_again ver v has) (verb_of_nothing ver)))
   command_known (name ∷ words) e apart bad =
-      elim (result_cases (verb_at name)) [
+      elim (result_cases (verb_at ver name)) [
         | inr p ↦
-            let is_command : p.0 ≡ cause.Command = fails_is cause.Command p.0 (verb_at name) (verb_fails name) p.1 in
-            let stops : command_at ver h.words (name ∷ words) ≡ Err p.0 = stops_at (verb_at name) _ p.0 p.1 in
+            let is_command : p.0 ≡ cause.Command = fails_is cause.Command p.0 (verb_at ver name) (verb_fails ver name) p.1 in
+            let stops : command_at ver h.words (name ∷ words) ≡ Err p.0 = stops_at (verb_at ver name) _ p.0 p.1 in
             let same : p.0 ≡ e = err_is {A = Command} p.0 e (sym stops ∙ bad) in
             subst (IsFirstFault ver h n (name ∷ words)) (sym is_command ∙
-            same) (command_fault (name ∷ words) apart (λ v is. two_results (verb_at name) v p.0 (ap verb_at is ∙ verb_again v) p.1))
+            same) (command_fault (name ∷ words) apart (λ v has is. two_results (verb_at ver name) v p.0 (ap (verb_at ver) is ∙ verb_again ver v has) p.1))
         | inl v ↦
             let goes : command_at ver h.words (name ∷ words) ≡ (operands_at ver v.0 words >>= λ c. sized h.words c) =
             read_as ver usable h.words name words v.0 v.1 in
@@ -188,7 +189,7 @@ module _ (ver : Version) (usable : IsUsable ver) (h : Config) (n : ℕ) where
               | inl c ↦
                   let size = sized_fails h.words c.0 e (sym (goes_to (operands_at ver v.0 words) (λ k. sized h.words k) c.0 c.1) ∙ sym goes ∙ bad) in
                   let spelled = operands_spell ver usable v.0 words c.0 c.1 in
-                  let same : name ∷ words ≡ command_words c.0 = ap (λ (w : List ℕ). w ∷ words) (verb_takes name v.0 v.1) ∙ spelled.0 in
+                  let same : name ∷ words ≡ command_words c.0 = ap (λ (w : List ℕ). w ∷ words) (verb_takes ver name v.0 v.1).0 ∙ spelled.0 in
                   subst (IsFirstFault ver h n (name ∷
                   words)) (sym size.0) (size_fault name words v.0 c.0 apart v.1 (right_of (HasCount v.0 (length (name ∷
                   words))) c.0 (operands_at ver v.0 words) c.1 agrees) spelled.1 spelled.2 same size.1)
@@ -201,8 +202,8 @@ module _ (ver : Version) (usable : IsUsable ver) (h : Config) (n : ℕ) where
   command_faultless [] c apart good = absurd cc
   command_faultless (name ∷ words) c apart good = faultless
     where
-      v : (k : Verb) × (verb_at name ≡ Ok k) × ((operands_at ver k words >>= λ d. sized h.words d) ≡ Ok c)
-      v = bind_ok (verb_at name) _ c good
+      v : (k : Verb) × (verb_at ver name ≡ Ok k) × ((operands_at ver k words >>= λ d. sized h.words d) ≡ Ok c)
+      v = bind_ok (verb_at ver name) _ c good
 
       o : (d : Command) × (operands_at ver v.0 words ≡ Ok d) × (sized h.words d ≡ Ok c)
       o = bind_ok (operands_at ver v.0 words) (λ d. sized h.words d) c v.2
@@ -217,7 +218,7 @@ module _ (ver : Version) (usable : IsUsable ver) (h : Config) (n : ℕ) where
       spelled = operands_spell ver usable v.0 words c read
 
       named : name ≡ verb_name v.0
-      named = verb_takes name v.0 v.1
+      named = (verb_takes ver name v.0 v.1).0
 
       right : HasCount v.0 (length (name ∷ words))
       right = right_of (HasCount v.0 (length (name ∷ words))) c (operands_at ver v.0 words) read (operands_cause ver usable v.0 name words)
@@ -227,7 +228,7 @@ module _ (ver : Version) (usable : IsUsable ver) (h : Config) (n : ℕ) where
       faultless cause.Heap f = f
       faultless cause.Thread f = apart f.0
       faultless cause.Total f = apart f.0
-      faultless cause.Command f = let k = named_command v.0 in f.1 k.0 (named ∙ k.1)
+      faultless cause.Command f = let k = named_command v.0 in f.1 k.0 (since_command ver v.0 (verb_takes ver name v.0 v.1).1) (named ∙ k.1)
       faultless cause.Arity f = f.2 (right_arity name words v.0 v.1 right)
       faultless cause.Operand f = f.1 c spelled.1 spelled.2 (ap (λ (w : List ℕ). w ∷ words) named ∙ spelled.0)
       faultless cause.Size f =

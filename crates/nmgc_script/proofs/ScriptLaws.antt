@@ -1,9 +1,9 @@
 -- A script is read exactly from its lines.
 use Rattle.std.proofs.{Common.◌≡◌, Common.◌≤◌, Common.◌^◌, Common.◌<◌, Common.◌+◌, Common.ℕ, Common.List, Common.[], Common.◌∷◌, Common.◌++◌, Common.map, Common.length, Common.refl, Common.sym, Common.ap, Common.subst, Common.◌∙◌, Common.arith, Common.inl, Common.inr, Common.Bool, Common.true, Common.false, Common.cond, Common.eqb, Common.suc, Common.Result, Common.Ok, Common.Err, Common.IfOk, Common.MatchResult, Common.codes, lemmas.Bool.Decides.eqb_tells, lemmas.List.length-map, lemmas.List.length-append, lemmas.List.Sums.sum_by-cons, lemmas.List.Elements.All-from_recursion, lemmas.List.Elements.All-weaker, lemmas.List.Elements.recursion_from_All, lemmas.Slice.Eq.bytes_eq-Decides}
 use Rattle.std.specs.{List.AllByRecursion, List.All, List.sum_by, Str.bytes_eq}
-use Rattle.nmgc_world_spec.specs.{declared.command.Command.Command, World.Fits, World.HasRegistersBelow}
+use Rattle.nmgc_world_spec.specs.{declared.command.Command.Command, World.Fits}
 use Rattle.nmgc_io.specs.{Text.lines_of, Text.tokens_of, Text.onto_first, Text.is_blank_or_comment, Text.spaced, laws.Parts.spaced-tokens_of}
-use Rattle.nmgc_script.specs.{declared.fault.Cause.Cause, declared.fault.ScriptFault.ScriptFault, declared.script.Config.Config, declared.script.Script.Script, declared.version.Version.Version, laws.Versions.IsUsable, laws.Versions.usable_version, laws.Versions.usable_number, laws.Versions.version_is, Spelling.FitsConfig, Spelling.FitsScript, Spelling.IsVersion, Spelling.version_1, Spelling.version_2, Spelling.version_of, Spelling.kept_from, Spelling.kept_lines, Spelling.heap_words, Spelling.command_words, Spelling.section_lines, Spelling.script_lines, Spelling.Spells, Spelling.version_3, Parts.total_words, Parts.end_of, Parts.section_words, Parts.version_words, Parts.program_lines, Reading.heap_words_at, Reading.section_at, Reading.rest_at, Reading.programs_at, Reading.threads_at, Reading.version_at, Reading.heap_at, Reading.script_at, Reading.at_line, Reading.GivesAt, laws.Lines.tokens_of-line, laws.Lines.heap_line_words, laws.Lines.section_line_words, laws.Lines.first_line, laws.Lines.second_line, laws.Versions.numbered, laws.Lines.third_line}
+use Rattle.nmgc_script.specs.{declared.fault.Cause.Cause, declared.fault.ScriptFault.ScriptFault, declared.script.Config.Config, declared.script.Script.Script, declared.version.Version.Version, laws.Versions.IsUsable, laws.Versions.usable_version, laws.Versions.usable_number, laws.Versions.version_is, Spelling.FitsConfig, Spelling.FitsScript, Spelling.IsOf, Spelling.IsVersion, Spelling.version_1, Spelling.version_2, Spelling.version_of, Spelling.kept_from, Spelling.kept_lines, Spelling.heap_words, Spelling.command_words, Spelling.section_lines, Spelling.script_lines, Spelling.Spells, Spelling.version_3, Parts.total_words, Parts.end_of, Parts.section_words, Parts.version_words, Parts.program_lines, Reading.heap_words_at, Reading.section_at, Reading.rest_at, Reading.programs_at, Reading.threads_at, Reading.version_at, Reading.heap_at, Reading.script_at, Reading.at_line, Reading.GivesAt, laws.Lines.tokens_of-line, laws.Lines.heap_line_words, laws.Lines.section_line_words, laws.Lines.first_line, laws.Lines.second_line, laws.Versions.numbered, laws.Lines.third_line}
 use Rattle.nmgc_script.specs.declared.fault.Cause.TheVariants as cause
 use Rattle.nmgc_script.specs.declared.fault.ScriptFault.TheVariants as script_fault
 use Rattle.nmgc_script.specs.declared.sections.Entry.TheVariants as entry
@@ -152,9 +152,8 @@ script_takes end lines s e =
       threads = subst (λ (v : Version). length t.0 ≤ v.threads) same third.few;
       total = subst (λ (v : Version). total_words h.0.0 (length t.0) ≤ v.heap_words) same third.total;
       commands = all_of (Fit b.0.0 h.0.0.words) (Fits h.0.0.words) (λ c fit. fit.0) t.0 third.fit;
-      registers = subst (λ (v : Version).
-          All (λ program. All (HasRegistersBelow v.registers) program) t.0) same
-          (all_of (Fit b.0.0 h.0.0.words) (HasRegistersBelow b.0.0.registers) (λ c fit. fit.1) t.0 third.fit);
+      of_version = subst (λ (v : Version). All (λ program. All (IsOf v) program) t.0) same
+          (all_of (Fit b.0.0 h.0.0.words) (IsOf b.0.0) (λ c fit. fit.1) t.0 third.fit);
     } in
     subst (λ (k : Script). (map text lines ≡ script_lines k) × FitsScript k) (ok_is {E = ℕ × Cause} made s t.2) (cc (first.0, second.0, third.lines_are), fits)
 
@@ -198,7 +197,7 @@ script_again end (first ∷ second ∷ lines) s fits e =
     let config : heap_words_at ver (tokens_of second.1) ≡ Ok s.config = ap (heap_words_at ver) words ∙ heap_again ver small s.config fits.config in
     let threads : threads_at ver end s.config lines ≡ Ok s.threads =
     threads_again ver usable end s.config lines s.threads fits.some_thread fits.threads fits.total
-    (both_to (Fits s.config.words) (HasRegistersBelow ver.registers) s.threads fits.commands fits.registers) after in
+    (both_to (Fits s.config.words) (IsOf ver) s.threads fits.commands fits.of_version) after in
     let read : script_at end (first ∷ second ∷ lines) ≡ Ok (numbered ver.number s) = rw (version, config, threads) refl in
     read ∙ ap (λ (n : ℕ). Ok (numbered n s)) (sym fits.version)
 

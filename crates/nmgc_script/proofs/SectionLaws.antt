@@ -98,6 +98,7 @@ verb_apart verb.Thunk = refl
 verb_apart verb.Weak = refl
 verb_apart verb.Stack = refl
 verb_apart verb.Get = refl
+verb_apart verb.Tag = refl
 verb_apart verb.Set = refl
 verb_apart verb.Cas = refl
 verb_apart verb.Update = refl
@@ -114,7 +115,7 @@ verb_apart verb.Collect = refl
 verb_apart verb.Full = refl
 
 not_section : (ver : Version) (usable : IsUsable ver) (size : ℕ) (c : Command) → Fit ver size c → is_section (command_words c) ≡ false
-not_section ver usable size c fits = let r = words_read ver usable c fits.1 fits.0.numbers in ap is_section r.2 ∙ verb_apart r.0
+not_section ver usable size c fits = let r = words_read ver usable c fits.1.0 fits.0.numbers in ap is_section r.2 ∙ verb_apart r.0
 
 order_again : (ver : Version) (usable : IsUsable ver) (h : Config) (n : ℕ) (c : Command) → Fit ver h.words c →
     entry_at ver h n (command_words c) ≡ Ok (entry.Command c)

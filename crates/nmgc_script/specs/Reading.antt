@@ -3,11 +3,11 @@
 -- These are the promises of the functions inside the parser to each other. No contract that another crate can call uses them:
 -- the promises to a caller of `parse` are in Spelling and Faults. Each function tries the causes of its tokens in the order
 -- in which they are reported.
-use Rattle.std.specs.Prelude.{◌≡◌, ℕ, ◌+◌, ◌-◌, ◌^◌, List, [], ◌∷◌, length, codes, decimal, Bool, false, Result, Ok, Err, ◌==◌, ◌&&◌, nat_le, if◌then◌else◌}
+use Rattle.std.specs.Prelude.{◌≡◌, ℕ, ◌+◌, ◌-◌, ◌^◌, List, [], ◌∷◌, length, codes, decimal, Bool, false, true, Result, Ok, Err, ◌==◌, ◌&&◌, nat_le, if◌then◌else◌}
 use Rattle.std.specs.{Int.is_power_of_two, Str.bytes_eq, Str.Parse.digits_value}
 use Rattle.nmgc_limits.specs.Limits.{most_nursery_words, most_quota, most_segment_words, least_segment_words, most_slice, most_trigger}
 use Rattle.nmgc_world_spec.specs.{declared.command.Operand.Operand, declared.command.Operand.TheVariants.Register, declared.command.Operand.TheVariants.Shared, declared.command.Command.Command, World.words_made}
-use Rattle.nmgc_world_spec.specs.declared.command.Command.TheVariants.{Num, Nil, Mov, Con, Var, Arr, Thunk, Weak, Stack, Get, Set, Cas, Update, Force, Push, Pop, Deref, Finalise, NextFin, Show, Same, Yield, Collect, Full}
+use Rattle.nmgc_world_spec.specs.declared.command.Command.TheVariants.{Num, Nil, Mov, Con, Var, Arr, Thunk, Weak, Stack, Get, Tag, Set, Cas, Update, Force, Push, Pop, Deref, Finalise, NextFin, Show, Same, Yield, Collect, Full}
 use Rattle.nmgc_io.specs.Text.{tokens_of, lines_of}
 use Rattle.nmgc_script.specs.{declared.fault.Cause.Cause, declared.fault.LineFault.LineFault, declared.fault.ScriptFault.ScriptFault, declared.script.Config.Config, declared.script.Script.Script, declared.verbs.Verb.Verb, declared.verbs.TheConstants.VERBS, declared.version.Version.Version, declared.sections.Entry.Entry, Parts.total_words, Spelling.version_1, Spelling.version_2, Spelling.version_3, Spelling.kept_from, Parts.verb_name}
 use Rattle.nmgc_script.specs.declared.fault.Cause.TheVariants as cause
@@ -128,6 +128,7 @@ operands_at v verb.Thunk words = thunk_at v words >>= λ p. Ok (Thunk p.0 p.1)
 operands_at v verb.Weak words = four_at (register_at v) (operand_at v) (operand_at v) (operand_at v) words >>= λ p. Ok (Weak p.0 p.1 p.2 p.3)
 operands_at v verb.Stack words = two_at (register_at v) short_at words >>= λ p. Ok (Stack p.0 p.1)
 operands_at v verb.Get words = three_at (register_at v) (operand_at v) short_at words >>= λ p. Ok (Get p.0 p.1 p.2)
+operands_at v verb.Tag words = two_at (register_at v) (operand_at v) words >>= λ p. Ok (Tag p.0 p.1)
 operands_at v verb.Set words = three_at (operand_at v) short_at (operand_at v) words >>= λ p. Ok (Set p.0 p.1 p.2)
 operands_at v verb.Cas words = four_at (operand_at v) short_at (operand_at v) (operand_at v) words >>= λ p. Ok (Cas p.0 p.1 p.2 p.3)
 operands_at v verb.Update words = two_at (operand_at v) (operand_at v) words >>= λ p. Ok (Update p.0 p.1)
@@ -151,8 +152,17 @@ first_named name [] = Err cause.Command
 first_named name (v ∷ vs) = if bytes_eq name (verb_name v) then Ok v else first_named name vs
 
 -- the verb that has a given name
-abbrev pub verb_at : List ℕ → Result Verb Cause
-verb_at name = first_named name VERBS
+abbrev pub named_at : List ℕ → Result Verb Cause
+named_at name = first_named name VERBS
+
+-- whether the version has a verb: `tag` is new in version 3
+abbrev pub has_verb : Version → Verb → Bool
+has_verb version verb.Tag = nat_le 3 version.number
+has_verb version _ = true
+
+-- the version's verb that has a given name
+unfoldable pub verb_at : Version → List ℕ → Result Verb Cause
+verb_at version name = named_at name >>= λ v. if has_verb version v then Ok v else Err cause.Command
 
 -- A COMMAND LINE: its name, the number of its tokens, each token, and the size of its object
 
@@ -164,7 +174,7 @@ sized size command = if nat_le (words_made command) size then Ok command else Er
 unfoldable pub command_at : Version → ℕ → List (List ℕ) → Result Command Cause
 command_at version size [] = Err cause.Command
 command_at version size (name ∷ words) = do
-  v ← verb_at name
+  v ← verb_at version name
   command ← operands_at version v words
   sized size command
 

@@ -3,7 +3,7 @@ use Rattle.std.specs.Prelude.{All, List, [], codes, decimal, if◌then◌else◌
 use Rattle.std.specs.Str.{bytes_eq}
 use Rattle.nmgc_limits.specs.Limits.{IsSegmentSize, most_heap_words, most_nursery_words, most_quota, most_script_bytes, most_segments, most_slice, most_trigger}
 use Rattle.nmgc_limits.specs.declared.mutators.TheConstants.{MAKERS, REGISTERS}
-use Rattle.nmgc_world_spec.specs.declared.command.Command.TheVariants.{Arr, Cas, Collect, Con, Deref, Finalise, Force, Full, Get, Mov, NextFin, Nil, Num, Pop, Push, Same, Set, Show, Stack, Thunk, Update, Var, Weak, Yield}
+use Rattle.nmgc_world_spec.specs.declared.command.Command.TheVariants.{Arr, Cas, Collect, Con, Deref, Finalise, Force, Full, Get, Mov, NextFin, Nil, Num, Pop, Push, Same, Set, Show, Stack, Tag, Thunk, Update, Var, Weak, Yield}
 use Rattle.nmgc_world_spec.specs.{World.Fits, World.HasNumbers, World.HasRegistersBelow, World.words_made, declared.command.Command.Command, declared.command.Operand.Operand, declared.command.Operand.TheVariants.Register, declared.command.Operand.TheVariants.Shared}
 use Rattle.nmgc_io.specs.Text.{is_blank_or_comment, lines_of, spaced, tokens_of}
 use Rattle.nmgc_script.specs.{declared.fault.Cause.Cause, declared.script.Config.Config, declared.script.Script.Script, declared.version.Version.Version}
@@ -59,6 +59,15 @@ pub record FitsConfig (most : ℕ) (c : Config) : Type 0 where
   pub quota : c.quota ≤ most_quota
   pub trigger : c.trigger ≤ most_trigger
 
+-- a version of this number has the command: `tag` is new in version 3
+abbrev pub IsSince : ℕ → Command → Type 0
+IsSince n (Tag dest object) = 3 ≤ n
+IsSince n _ = Unit {0}
+
+-- the version has the command, and all registers that the command names
+abbrev pub IsOf : Version → Command → Type 0
+IsOf v c = HasRegistersBelow v.registers c × IsSince v.number c
+
 -- the script is within the limits of its own version
 pub record FitsScript (s : Script) : Type 0 where
   pub version : s.version ≡ (version_of s.version).number
@@ -67,7 +76,7 @@ pub record FitsScript (s : Script) : Type 0 where
   pub threads : length s.threads ≤ (version_of s.version).threads
   pub total : s.config.segments * s.config.words + length s.threads * s.config.nursery ≤ (version_of s.version).heap_words
   pub commands : All (λ program. All (Fits s.config.words) program) s.threads
-  pub registers : All (λ program. All (HasRegistersBelow (version_of s.version).registers) program) s.threads
+  pub of_version : All (λ program. All (IsOf (version_of s.version)) program) s.threads
 
 -- a script's upgrade: in version 2 if it has version 1, and otherwise itself, since version 3 has limits that version 2 lacks
 abbrev pub upgraded : Script → Script
@@ -98,6 +107,7 @@ command_words (Thunk dest free) = codes "thunk" ∷ register_word dest ∷ map o
 command_words (Weak dest key value finaliser) = codes "weak" ∷ register_word dest ∷ operand_word key ∷ operand_word value ∷ operand_word finaliser ∷ []
 command_words (Stack dest size) = codes "stack" ∷ register_word dest ∷ decimal size ∷ []
 command_words (Get dest object index) = codes "get" ∷ register_word dest ∷ operand_word object ∷ decimal index ∷ []
+command_words (Tag dest object) = codes "tag" ∷ register_word dest ∷ operand_word object ∷ []
 command_words (Set object index value) = codes "set" ∷ operand_word object ∷ decimal index ∷ operand_word value ∷ []
 command_words (Cas object index expected value) = codes "cas" ∷ operand_word object ∷ decimal index ∷ operand_word expected ∷ operand_word value ∷ []
 command_words (Update object value) = codes "update" ∷ operand_word object ∷ operand_word value ∷ []
@@ -177,7 +187,7 @@ HasFault v h n words cause.Version = ⊥
 HasFault v h n words cause.Heap = ⊥
 HasFault v h n words cause.Thread = HasToBegin n words × (n < v.threads → words ≢ codes "thread" ∷ decimal n ∷ [])
 HasFault v h n words cause.Total = HasToBegin n words × (v.heap_words < h.segments * h.words + (n + 1) * h.nursery)
-HasFault v h n words cause.Command = (HasToBegin n words → ⊥) × ((c : Command) → first_of words ≢ first_of (command_words c))
+HasFault v h n words cause.Command = (HasToBegin n words → ⊥) × ((c : Command) → IsSince v.number c → first_of words ≢ first_of (command_words c))
 HasFault v h n words cause.Arity = (HasToBegin n words → ⊥) × ((c : Command) × (first_of words ≡ first_of (command_words c))) ×
     (HasArity v (first_of words) (length words) → ⊥)
 HasFault v h n words cause.Operand = (HasToBegin n words → ⊥) × ((c : Command) → HasRegistersBelow v.registers c → HasNumbers c → words ≢ command_words c)

@@ -26,7 +26,7 @@ pub fn command(
     let Some((name, tokens)) = tokens.split_first() else {
         return Err(LineFault::Bad(Cause::Command));
     };
-    let verb = verb_of(name)?;
+    let verb = verb_of(version, name)?;
     let command = read_command(alloc, version, verb, tokens)?;
     check_size(command, size)
 }
@@ -63,6 +63,7 @@ fn read_command(
         Verb::Weak => made!(version.dest_values(tokens) => Weak { dest, key, value, finaliser }),
         Verb::Stack => made!(version.dest_count(tokens) => Stack { dest, size }),
         Verb::Get => made!(version.dest_value_index(tokens) => Get { dest, object, index }),
+        Verb::Tag => made!(version.dest_value(tokens) => Tag { dest, object }),
         Verb::Set => made!(version.value_index_value(tokens) => Set { object, index, value }),
         Verb::Cas =>
             made!(version.value_index_values(tokens) => Cas { object, index, expected, value }),

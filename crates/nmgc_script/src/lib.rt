@@ -6,7 +6,7 @@
 //! `a_text_spells_at_most_one_script` has the laws of both. A new command needs a `Verb` in `VERBS` with its `name`, and an
 //! arm of `guess_verb`, so that it is found at once. A line in `read_command` (`commands`) reads it, and a line in
 //! `push_form` (`printing`) prints it. In `specs/` it needs a line of `command_words` (`Spelling`), of `verb_name` (`Parts`) and
-//! of `operands_at` (`Reading`), and in `proofs/` its cases. The compiler reports a forgotten arm, except in `guess_verb`,
+//! of `operands_at` (`Reading`), and in `proofs/` its cases. If old versions lack it, `IsSince` and `has_verb` name it too. The compiler reports a forgotten arm, except in `guess_verb`,
 //! and the prover a verb that `VERBS` lacks. The run, the report and the program depend on this crate, and no run begins
 //! before `parse` has returned.
 #![tactic(auto)]

@@ -162,6 +162,7 @@ fn push_form(out: &mut Vec<u8>, form: &Form) -> Result<(), NoMemory>
         Weak { dest: Register, key: Value, value: Value, finaliser: Value }
         Stack { dest: Register, size: Short }
         Get { dest: Register, object: Value, index: Short }
+        Tag { dest: Register, object: Value }
         Set { object: Value, index: Short, value: Value }
         Cas { object: Value, index: Short, expected: Value, value: Value }
         Update { object: Value, value: Value }

@@ -5,8 +5,9 @@
 //! are compared only if the guess is wrong, so only the time of a long script depends on it. Easy to get wrong: a verb that
 //! is missing in `VERBS` could be printed but not read.
 ghost use Rattle.std.specs.Prelude.{◌≡◌};
-ghost use Rattle.nmgc_script.specs.{Reading.Gives, Reading.first_named, Reading.verb_at, Parts.verb_name};
+ghost use Rattle.nmgc_script.specs.{Reading.Gives, Reading.first_named, Reading.named_at, Reading.verb_at, Parts.verb_name};
 
+use crate::version::Version;
 use crate::{Cause, LineFault};
 
 /// The action that a command's name requests.
@@ -22,6 +23,7 @@ pub enum Verb {
     Weak,
     Stack,
     Get,
+    Tag,
     Set,
     Cas,
     Update,
@@ -39,7 +41,7 @@ pub enum Verb {
 }
 
 /// Every verb, in the order in which names are looked up.
-pub const VERBS: [Verb; 24] = [
+pub const VERBS: [Verb; 25] = [
     Verb::Num,
     Verb::Nil,
     Verb::Mov,
@@ -50,6 +52,7 @@ pub const VERBS: [Verb; 24] = [
     Verb::Weak,
     Verb::Stack,
     Verb::Get,
+    Verb::Tag,
     Verb::Set,
     Verb::Cas,
     Verb::Update,
@@ -82,6 +85,7 @@ impl Verb {
             Verb::Weak => b"weak",
             Verb::Stack => b"stack",
             Verb::Get => b"get",
+            Verb::Tag => b"tag",
             Verb::Set => b"set",
             Verb::Cas => b"cas",
             Verb::Update => b"update",
@@ -116,6 +120,7 @@ fn guess_verb(name: &[u8]) -> Verb {
         [b'm', ..] => Verb::Mov,
         [b'v', ..] => Verb::Var,
         [b'a', ..] => Verb::Arr,
+        [b't', b'a', ..] => Verb::Tag,
         [b't', ..] => Verb::Thunk,
         [b'w', ..] => Verb::Weak,
         [b'c', b'a', ..] => Verb::Cas,
@@ -131,9 +136,21 @@ fn guess_verb(name: &[u8]) -> Verb {
     }
 }
 
-/// Returns the verb that has this name, or a fault if there is none. Takes no memory.
-pub fn verb_of(name: &[u8]) -> Result<Verb, LineFault>
-    ensures { Gives result (verb_at name.now) }
+/// Returns the version's verb that has this name, or a fault if there is none. Takes no memory.
+#[tactic(auto, unfolding(crate::specs::Reading::verb_at))]
+pub fn verb_of(version: Version, name: &[u8]) -> Result<Verb, LineFault>
+    ensures { Gives result (verb_at version name.now) }
+{
+    let verb = any_verb_of(name)?;
+    if !version.has(verb) {
+        return Err(LineFault::Bad(Cause::Command));
+    }
+    Ok(verb)
+}
+
+// Returns the verb that has this name in any version, or a fault if there is none.
+fn any_verb_of(name: &[u8]) -> Result<Verb, LineFault>
+    ensures { Gives result (named_at name.now) }
 {
     let verb = guess_verb(name);
     if name == verb.name() {

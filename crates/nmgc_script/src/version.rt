@@ -2,11 +2,12 @@
 //!
 //! A script's first line names its version. All differences between versions are in one value, a `Version`, which the
 //! functions that read a line receive. It has the most threads, segments, words of the heap and bytes, and the number of
-//! registers that a command can name. An old version may allow fewer than there are. The laws of versions are about any
+//! registers that a command can name. An old version may allow fewer than there are, and lack new commands (`has`). The laws of versions are about any
 //! usable version (`specs/laws/Versions.antt`). So a fourth version is a constant and a line that is read.
 ghost use Rattle.std.specs.Prelude.{◌≡◌};
-ghost use Rattle.nmgc_script.specs.Spelling.{version_1, version_2, version_3};
+ghost use Rattle.nmgc_script.specs.{Spelling.version_1, Spelling.version_2, Spelling.version_3, Reading.has_verb};
 
+use crate::verbs::Verb;
 use nmgc_limits::{MAKERS, MAX_HEAP_WORDS, MAX_SCRIPT_BYTES, REGISTERS};
 
 /// The limits of a version.
@@ -65,6 +66,16 @@ impl Version {
             heap_words: MAX_HEAP_WORDS,
             bytes: MAX_SCRIPT_BYTES,
             ..second
+        }
+    }
+
+    /// Returns whether the version has the verb: `tag` is new in version 3. Takes no memory.
+    pub fn has(self, verb: Verb) -> bool
+        ensures { result ≡ has_verb self verb }
+    {
+        match verb {
+            Verb::Tag => self.number >= 3,
+            _ => true,
         }
     }
 }

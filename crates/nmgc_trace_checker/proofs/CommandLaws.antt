@@ -2,10 +2,9 @@
 use Rattle.std.proofs.{Common.◌≡◌, Common.◌<◌, Common.◌≤◌, Common.◌+◌, Common.◌*◌, Common.ℕ, Common.List, Common.[], Common.◌∷◌, Common.◌++◌, Common.map, Common.length, Common.refl, Common.sym, Common.ap, Common.subst, Common.◌∙◌, Common.arith, Common.true, Common.false, Common.codes, Common.inl, Common.inr, Common.Option, Common.Some, Common.None, Common.Result, Common.Ok, Common.Err, Common.IfOk, Common.MatchResult, Common.append_assoc, Common.lit≤, lemmas.Bool.ne_eqb, lemmas.Bool.cases_Bool, lemmas.List.append-nil, lemmas.List.map_push, lemmas.List.length-append, lemmas.List.Elements.All-nil, lemmas.List.Elements.All-cons, lemmas.List.Elements.All-contains, lemmas.List.Elements.Contains-push}
 use Rattle.std.specs.{Prelude.All, Prelude.Contains, Fmt.digits}
 use Rattle.nmgc_lists.specs.{declared.memory.NoMemory.NoMemory, laws.Items.contains_cases, laws.Items.contains_head, laws.Items.contains_tail, laws.Items.nothing_in}
-use Rattle.nmgc_world_spec.specs.{declared.command.Command.Command, World.Fits, World.HasRegistersBelow}
-use Rattle.nmgc_limits.specs.declared.mutators.TheConstants.{REGISTERS}
+use Rattle.nmgc_world_spec.specs.{declared.command.Command.Command, World.Fits}
 use Rattle.nmgc_io.specs.Text.{lines_of, is_blank_or_comment, spaced}
-use Rattle.nmgc_script.specs.{declared.fault.Cause.Cause, declared.fault.ScriptFault.ScriptFault, declared.script.Config.Config, declared.script.Script.Script, Spelling.FitsScript, Spelling.kept_from, Spelling.kept_lines, Spelling.command_words, Spelling.heap_words, Spelling.section_lines, Spelling.Spells, Parts.version_words, Parts.section_words, Parts.program_lines, laws.Lines.IsLine, laws.Lines.IsKept, laws.Lines.made_kept, laws.Lines.made_short, laws.Lines.command_line, laws.Versions.bench_sizes_fit}
+use Rattle.nmgc_script.specs.{declared.fault.Cause.Cause, declared.fault.ScriptFault.ScriptFault, declared.script.Config.Config, declared.script.Script.Script, Spelling.FitsScript, Spelling.IsOf, Spelling.version_3, laws.Versions.since_last, Spelling.kept_from, Spelling.kept_lines, Spelling.command_words, Spelling.heap_words, Spelling.section_lines, Spelling.Spells, Parts.version_words, Parts.section_words, Parts.program_lines, laws.Lines.IsLine, laws.Lines.IsKept, laws.Lines.made_kept, laws.Lines.made_short, laws.Lines.command_line, laws.Versions.bench_sizes_fit}
 use Rattle.nmgc_script.specs.declared.fault.ScriptFault.TheVariants as script_fault
 use Rattle.nmgc_trace_checker.specs.Reading.{script_head, IsLastIf, IsLastOf, IsSpelled, IsSpelledIf}
 use Rattle.nmgc_trace_checker.proofs.LineWords.{command_count}
@@ -20,7 +19,7 @@ feed_on [] none = refl
 feed_on (b ∷ line) none = rw (ne_eqb b 10 none.0, feed_on line none.1) refl
 
 abbrev with_head : List (List ℕ) → List (List ℕ)
-with_head lines = codes "nmgc 2" ∷ codes "heap 128 4096 4096 4096 1048576 8" ∷ codes "thread 0" ∷ lines
+with_head lines = codes "nmgc 3" ∷ codes "heap 128 4096 4096 4096 1048576 8" ∷ codes "thread 0" ∷ lines
 
 lines_are : (line : List ℕ) → IsLine line → lines_of (script_with line) ≡ with_head (line ∷ [])
 lines_are line none = ap with_head (feed_on line none)
@@ -109,7 +108,7 @@ abbrev config : Config
 config = record { segments = 128; words = 4096; nursery = 4096; slice = 4096; quota = 1048576; trigger = 8 }
 
 abbrev with_command : Command → Script
-with_command c = record { version = 2; config = config; threads = (c ∷ []) ∷ [] }
+with_command c = record { version = 3; config = config; threads = (c ∷ []) ∷ [] }
 
 with_fits : (c : Command) → Fits 4096 c → FitsScript (with_command c)
 with_fits c f = record {
@@ -120,12 +119,11 @@ with_fits c f = record {
   total = omega arith;
   commands = All-cons (λ program. All (Fits 4096) program) (c ∷ []) [] (All-cons (Fits 4096) c [] f (All-nil (Fits 4096)))
       (All-nil (λ program. All (Fits 4096) program));
-  registers = All-cons (λ program. All (HasRegistersBelow REGISTERS) program) (c ∷ [])
-      [] (All-cons (HasRegistersBelow REGISTERS) c [] f.registers (All-nil (HasRegistersBelow REGISTERS)))
-      (All-nil (λ program. All (HasRegistersBelow REGISTERS) program));
+  of_version = All-cons (λ program. All (IsOf version_3) program) (c ∷ [])
+      [] (All-cons (IsOf version_3) c [] (f.registers, since_last c) (All-nil (IsOf version_3))) (All-nil (λ program. All (IsOf version_3) program));
 }
 
-head_is : (line : List ℕ) → with_head (line ∷ []) ≡ spaced (version_words 2) ∷ spaced (heap_words config) ∷ spaced (section_words 0) ∷ line ∷ []
+head_is : (line : List ℕ) → with_head (line ∷ []) ≡ spaced (version_words 3) ∷ spaced (heap_words config) ∷ spaced (section_words 0) ∷ line ∷ []
 unfolding digits
 head_is line = refl
 
@@ -148,7 +146,7 @@ module _ (line : List ℕ) (c : Command) (is : IsSpelled line c) where
   pub script_spells : Spells (script_with line) (with_command c)
   script_spells = record {
     lines = all_kept line no_feed ∙ kept_line line kept.kept ∙ head_is line ∙
-        ap (λ (l : List ℕ). spaced (version_words 2) ∷ spaced (heap_words config) ∷ spaced (section_words 0) ∷ l ∷ []) is.1;
+        ap (λ (l : List ℕ). spaced (version_words 3) ∷ spaced (heap_words config) ∷ spaced (section_words 0) ∷ l ∷ []) is.1;
     fits = with_fits c is.0;
   }
 

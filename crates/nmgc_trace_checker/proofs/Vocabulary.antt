@@ -13,7 +13,7 @@ pub use Rattle.nmgc_script.specs.{Spelling.FitsConfig, Spelling.FitsScript, Spel
 pub use Rattle.nmgc_snapshot_laws.specs.{Machine.IsPossible, Machine.Passes, Machine.after_take, Run.IsExact, Run.Runs, State.State, State.is_new, State.names_of, State.opening, State.with_mark, declared.event.Event.Event, laws.Common.runs_join, laws.Runs.snapshot_theorem}
 pub use Rattle.nmgc_barrier_checker.specs.{Rows.copied, Rows.filled, Watching.AreDone, Watching.CanAct, declared.cycle_result.CycleResult.CycleResult, declared.rows.Copying.Copying, declared.rows.Filling.Filling, declared.watch.Watch.Watch}
 pub use Rattle.nmgc_world_laws.specs.laws.{Deaths.closed_world, NewWorlds.new_is_world, WorldSteps.step_keeps_world}
-pub use Rattle.nmgc_world_spec.specs.{World.Fits, World.HasRegistersBelow, World.shared_name, World.step, World.World, World.new_world, Known.IsOperand, Known.IsRegister, Reach.Row, Reach.finalised, Reach.opened, Reach.IsBefore, Reach.IsInOrder, Reach.IsKept, Reach.Lists, Known.IsWorld, declared.command.Command.Command, declared.command.Command.TheVariants.Arr, declared.command.Command.TheVariants.Cas, declared.command.Command.TheVariants.Collect, declared.command.Command.TheVariants.Con, declared.command.Command.TheVariants.Deref, declared.command.Command.TheVariants.Finalise, declared.command.Command.TheVariants.Force, declared.command.Command.TheVariants.Full, declared.command.Command.TheVariants.Get, declared.command.Command.TheVariants.Mov, declared.command.Command.TheVariants.NextFin, declared.command.Command.TheVariants.Nil, declared.command.Command.TheVariants.Num, declared.command.Command.TheVariants.Pop, declared.command.Command.TheVariants.Push, declared.command.Command.TheVariants.Same, declared.command.Command.TheVariants.Set, declared.command.Command.TheVariants.Show, declared.command.Command.TheVariants.Stack, declared.command.Command.TheVariants.Thunk, declared.command.Command.TheVariants.Update, declared.command.Command.TheVariants.Var, declared.command.Command.TheVariants.Weak, declared.command.Command.TheVariants.Yield, declared.command.Operand.Operand, declared.command.Operand.TheVariants.Register, declared.command.Operand.TheVariants.Shared, declared.command.Reply.Reply, declared.value.Name.Name, declared.value.Value.Value, laws.Orders.before_trans, laws.Orders.in_order_first, laws.Orders.in_order_rest, laws.Orders.not_before_itself}
+pub use Rattle.nmgc_world_spec.specs.{World.Fits, World.HasRegistersBelow, World.shared_name, World.step, World.World, World.new_world, Known.IsOperand, Known.IsRegister, Reach.Row, Reach.finalised, Reach.opened, Reach.IsBefore, Reach.IsInOrder, Reach.IsKept, Reach.Lists, Known.IsWorld, declared.command.Command.Command, declared.command.Command.TheVariants.Arr, declared.command.Command.TheVariants.Cas, declared.command.Command.TheVariants.Collect, declared.command.Command.TheVariants.Con, declared.command.Command.TheVariants.Deref, declared.command.Command.TheVariants.Finalise, declared.command.Command.TheVariants.Force, declared.command.Command.TheVariants.Full, declared.command.Command.TheVariants.Get, declared.command.Command.TheVariants.Mov, declared.command.Command.TheVariants.NextFin, declared.command.Command.TheVariants.Nil, declared.command.Command.TheVariants.Num, declared.command.Command.TheVariants.Pop, declared.command.Command.TheVariants.Push, declared.command.Command.TheVariants.Same, declared.command.Command.TheVariants.Set, declared.command.Command.TheVariants.Show, declared.command.Command.TheVariants.Stack, declared.command.Command.TheVariants.Tag, declared.command.Command.TheVariants.Thunk, declared.command.Command.TheVariants.Update, declared.command.Command.TheVariants.Var, declared.command.Command.TheVariants.Weak, declared.command.Command.TheVariants.Yield, declared.command.Operand.Operand, declared.command.Operand.TheVariants.Register, declared.command.Operand.TheVariants.Shared, declared.command.Reply.Reply, declared.value.Name.Name, declared.value.Value.Value, laws.Orders.before_trans, laws.Orders.in_order_first, laws.Orders.in_order_rest, laws.Orders.not_before_itself}
 pub use Rattle.std.proofs.Math.Seq.{take-add}
 pub use Rattle.std.proofs.Common.{Bool, Bor, Err, Global, IfOk, List, MatchResult, None, Ok, Option, Result, Some, [], add-one, ap, append_assoc, arith, codes, cond, decimal, drop, drop-cons, eqb, false, get_or, inl, inr, leb, length, lit≤, ltb, map, min, not, refl, string_bytes, subst, suc, sym, take, true, zero, ℕ, ◌%◌, ◌*◌, ◌++◌, ◌+◌, ◌-◌, ◌<◌, ◌^◌, ◌↔◌, ◌∙◌, ◌∷◌, ◌≡◌, ◌≢◌, ◌≤◌, ◌⊎◌}
 pub use Rattle.std.proofs.lemmas.{Bool.and_from, Bool.and_parts, Bool.cases_Bool, Bool.cond-false, Bool.cond-true, Bool.eq-eqb, Bool.eqb-true, Bool.false≢true, Bool.leb-true, Bool.lt-ltb, Bool.ltb-true, Bool.ne_eqb, Bool.Decides.eqb_tells, Fmt.decimal_by_steps, Fmt.decimal_nonempty, Fmt.length-decimal-le, List.append-nil, List.drop_all, List.drop_at, List.flat_map_more, List.get_or_push, List.length-append, List.length-map, List.length-take-le, List.length_push, List.map-append, List.map_more, List.map_push, List.nil_from_length, List.same_from_push, List.take-append-drop, List.take-append-le, List.take_all, List.take_more, List.Elements.All-cons, List.Elements.All-contains, List.Elements.All-from_recursion, List.Elements.All-nil, List.Elements.Contains-append_cases, List.Elements.Contains-append_left, List.Elements.Contains-append_right, List.Elements.Contains-get_or, List.Elements.Contains-push, List.Elements.Contains-push_cases, List.Elements.recursion_from_All, Option.none-some, Option.same_Some, Result.IfOk-weaker, Result.err_from_is_err_and, Result.on_err_weaker, Result.on_ok_weaker, Slice.Eq.bytes_eq-Decides, Str.Pattern.strip_suffix_char}

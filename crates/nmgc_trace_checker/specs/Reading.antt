@@ -123,7 +123,7 @@ parts_at (mutator ∷ words) = do
 
 -- the lines of a script before its first command
 abbrev pub script_head : List ℕ
-script_head = codes "nmgc 2\nheap 128 4096 4096 4096 1048576 8\nthread 0\n"
+script_head = codes "nmgc 3\nheap 128 4096 4096 4096 1048576 8\nthread 0\n"
 
 -- the last command of the last program, or none exactly if there is none
 abbrev pub IsLastIf : List (List Command) → Option Command → Type 0

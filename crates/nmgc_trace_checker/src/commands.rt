@@ -194,7 +194,7 @@ fn script_of(alloc: Global, line: &[u8]) -> Result<Vec<u8>, NoMemory>
     ensures { IfOk result (λ text. text.items ≡ script_head ++ line.now ++ 10 ∷ []) }
 {
     let mut text = Vec::with_capacity(alloc, 128)?;
-    text.extend_from_slice(b"nmgc 2\nheap 128 4096 4096 4096 1048576 8\nthread 0\n")?;
+    text.extend_from_slice(b"nmgc 3\nheap 128 4096 4096 4096 1048576 8\nthread 0\n")?;
     text.extend_from_slice(line)?;
     text.push(b'\n')?;
     Ok(text)

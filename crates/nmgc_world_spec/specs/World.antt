@@ -77,6 +77,7 @@ HasRegistersBelow b (command.Thunk dest free) = (dest < b) × All (IsOperandBelo
 HasRegistersBelow b (command.Weak dest key value finaliser) = (dest < b) × IsOperandBelow b key × IsOperandBelow b value × IsOperandBelow b finaliser
 HasRegistersBelow b (command.Stack dest size) = dest < b
 HasRegistersBelow b (command.Get dest object index) = (dest < b) × IsOperandBelow b object
+HasRegistersBelow b (command.Tag dest object) = (dest < b) × IsOperandBelow b object
 HasRegistersBelow b (command.Set object index value) = IsOperandBelow b object × IsOperandBelow b value
 HasRegistersBelow b (command.Cas object index expected value) = IsOperandBelow b object × IsOperandBelow b expected × IsOperandBelow b value
 HasRegistersBelow b (command.Update object value) = IsOperandBelow b object × IsOperandBelow b value
@@ -142,6 +143,11 @@ field_read (Con tag values) index = if_there NoField Given (slice_get values ind
 field_read (Var v) index = if_there NoField Given (slice_get (v ∷ []) index)
 field_read (Arr values) index = if_there NoField Given (slice_get values index)
 field_read _ index = WrongKind
+
+-- the answer of `tag`: a constructor's tag as a number, or else a refusal
+abbrev pub tag_read : Node → Reply
+tag_read (Con tag values) = Given (value.Number tag)
+tag_read _ = WrongKind
 
 -- the answer of `force`: the result of a thunk, or else a refusal
 abbrev pub result_read : Node → Reply
@@ -291,6 +297,7 @@ step w m (command.Weak dest key v finaliser) =
     born w m dest (Weak (Some (record { key = value_for w m key; value = value_for w m v; finaliser = value_for w m finaliser })))
 step w m (command.Stack dest size) = born w m dest (Stack size [])
 step w m (command.Get dest object index) = change_into m dest (w, if_there NoPointer (λ found. field_read found index) (object_of w (value_for w m object)))
+step w m (command.Tag dest object) = change_into m dest (w, if_there NoPointer tag_read (object_of w (value_for w m object)))
 step w m (command.Set object index v) = change_object w (value_for w m object) (change.Set index (value_for w m v))
 step w m (command.Cas object index expected v) = change_object w (value_for w m object) (change.Exchange index (value_for w m expected) (value_for w m v))
 step w m (command.Update object v) = change_object w (value_for w m object) (change.Update (value_for w m v))

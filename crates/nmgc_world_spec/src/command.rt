@@ -68,6 +68,11 @@ pub enum Command {
         object: Operand,
         index: u32,
     },
+    /// Reads a constructor's tag as a number.
+    Tag {
+        dest: u8,
+        object: Operand,
+    },
     /// Writes a field of a variable or an array.
     Set {
         object: Operand,
@@ -163,6 +168,7 @@ impl Drop for Command {
                 object: _,
                 index: _,
             } => {}
+            Command::Tag { dest: _, object: _ } => {}
             Command::Set {
                 object: _,
                 index: _,

@@ -29,6 +29,7 @@ impl Command {
                 is_register(*dest) && is_valid(*key) && is_valid(*value) && is_valid(*finaliser)
             }
             Command::Get { dest, object, .. }
+            | Command::Tag { dest, object }
             | Command::Force { dest, object }
             | Command::Pop { dest, object }
             | Command::Deref { dest, object }

@@ -2,8 +2,8 @@
 use Rattle.std.proofs.Common.{◌≡◌, ℕ, List, [], ◌∷◌, zero, suc, map, set, refl, sym, ap, subst, ◌∙◌, Bool, true, false, Option, Some, None, inl, inr}
 use Rattle.std.specs.Prelude.{slice_get, slice_set}
 use Rattle.nmgc_limits.specs.declared.mutators.TheConstants.{SHARED_MAKER}
-use Rattle.nmgc_world_spec.specs.{declared.command.Operand.Operand, declared.command.Command.Command, declared.command.Reply.Reply, declared.change.Change.Change, declared.value.Name.Name, declared.value.Value.Value, declared.node.Node.Node, declared.mutator_state.MutatorState.MutatorState, World.World, World.state_of, World.node_of, World.changed, World.field_read, World.result_read, World.value_read, World.value_of, World.value_for, World.with_state, World.with_node, World.keeping, World.object_of, World.change_object, World.change_into, World.next_name, World.step, Pieces.given_or, Reach.opened_by, Reach.finalised_by, Reach.from_alive, Reach.name_in, Pieces.opened_in, Pieces.finalised_in}
-use Rattle.nmgc_world_spec.specs.declared.command.Command.TheVariants.{Num, Nil, Mov, Con, Var, Arr, Thunk, Weak, Stack, Get, Set, Cas, Update, Force, Push, Pop, Deref, Finalise, NextFin, Show, Same, Yield, Collect, Full}
+use Rattle.nmgc_world_spec.specs.{declared.command.Operand.Operand, declared.command.Command.Command, declared.command.Reply.Reply, declared.change.Change.Change, declared.value.Name.Name, declared.value.Value.Value, declared.node.Node.Node, declared.mutator_state.MutatorState.MutatorState, World.World, World.state_of, World.node_of, World.changed, World.field_read, World.tag_read, World.result_read, World.value_read, World.value_of, World.value_for, World.with_state, World.with_node, World.keeping, World.object_of, World.change_object, World.change_into, World.next_name, World.step, Pieces.given_or, Reach.opened_by, Reach.finalised_by, Reach.from_alive, Reach.name_in, Pieces.opened_in, Pieces.finalised_in}
+use Rattle.nmgc_world_spec.specs.declared.command.Command.TheVariants.{Num, Nil, Mov, Con, Var, Arr, Thunk, Weak, Stack, Get, Tag, Set, Cas, Update, Force, Push, Pop, Deref, Finalise, NextFin, Show, Same, Yield, Collect, Full}
 use Rattle.nmgc_world_spec.specs.declared.command.Reply.TheVariants as reply
 use Rattle.nmgc_world_spec.specs.declared.change.Change.TheVariants as change
 use Rattle.nmgc_world_spec.specs.declared.value.Value.TheVariants as value
@@ -119,6 +119,7 @@ module _ (shown : ℕ → Bool) where
     same_step w (Stack dest size) = own w (λ (q : MutatorState). with_new q m dest (node.Stack size [])) (λ (q : MutatorState).
         reply.Given (value.Ref (next_name q m)))
     same_step w (Get dest object index) = reads w dest object (λ found. field_read found index)
+    same_step w (Tag dest object) = reads w dest object tag_read
     same_step w (Set object index v) = ap (λ (q : MutatorState). change_object (hidden shown w) (value_of q.registers object)
         (change.Set index (value_of q.registers v))) (same_state w) ∙ same_change w (value_for w m object) (change.Set index (value_for w m v))
     same_step w (Cas object index expected v) = ap (λ (q : MutatorState). change_object (hidden shown w) (value_of q.registers object)

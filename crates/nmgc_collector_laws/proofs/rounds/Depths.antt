@@ -130,6 +130,7 @@ same_stacks h (command.Thunk dest free) a l = taking_stacks (record h { serial =
 same_stacks h (command.Weak dest key v finaliser) a l = taking_stacks (record h { serial = h.serial + 1 }) dest a
 same_stacks h (command.Stack dest size) a l = absurd l
 same_stacks h (command.Get dest object index) a l = taking_stacks h dest a
+same_stacks h (command.Tag dest object) a l = taking_stacks h dest a
 same_stacks h (command.Set object index v) a l = refl
 same_stacks h (command.Cas object index expected v) a l = refl
 same_stacks h (command.Update object v) a l = refl

@@ -1,6 +1,6 @@
 -- A run of programs, from stop to stop: the script so far, and the bound of its stops.
-use Rattle.nmgc_cycle.proofs.Vocabulary.{ℕ, suc, ◌≡◌, ◌↔◌, ◌+◌, ◌*◌, ◌<◌, ◌≤◌, ◌++◌, ◌∙◌, List, [], ◌∷◌, map, length, slice_get, slice_get_within, slice_index, slice_index_or, Option, Some, refl, sym, ap, subst, arith, inl, inr, append_assoc, append-nil, length-append, map-append, item, item_map, Contains, Fits, Command, Reply, Done, Config, Script, Layout, World, new_world, all_empty, ends_of, replicate, length-replicate, IsPlaceAtStop, ListsWeaks, HeapStandsFor, AreAtRest, plan_of, layout_of, RoundRows, commands_left, answered_count, Collector, IsFresh, FitsRun, All, All-nil, All-cons, HasRegistersBelow, REGISTERS, sum_by, sum_by-cons, zero, DidRound, GaveEach, DidAsk, MayRun, MayBeAsked, IsScriptSoFar, HasNoCommands, threads_of, script_of, all_replies, replies_to, most_total, seen}
-use Rattle.nmgc_script.specs.Spelling.{version_3}
+use Rattle.nmgc_cycle.proofs.Vocabulary.{ℕ, suc, ◌≡◌, ◌↔◌, ◌+◌, ◌*◌, ◌<◌, ◌≤◌, ◌++◌, ◌∙◌, List, [], ◌∷◌, map, length, slice_get, slice_get_within, slice_index, slice_index_or, Option, Some, refl, sym, ap, subst, arith, inl, inr, append_assoc, append-nil, length-append, map-append, item, item_map, Contains, Fits, Command, Reply, Done, Config, Script, Layout, World, new_world, all_empty, ends_of, replicate, length-replicate, IsPlaceAtStop, ListsWeaks, HeapStandsFor, AreAtRest, plan_of, layout_of, RoundRows, commands_left, answered_count, Collector, IsFresh, FitsRun, All, All-nil, All-cons, sum_by, sum_by-cons, zero, DidRound, GaveEach, DidAsk, MayRun, MayBeAsked, IsScriptSoFar, HasNoCommands, threads_of, script_of, all_replies, replies_to, most_total, seen}
+use Rattle.nmgc_script.specs.Spelling.{IsOf, version_3}
 use Rattle.nmgc_cycle.proofs.{lengths.Measures.left_most, rounds.SoFar.both, rounds.SoFar.both_at, rounds.SoFar.both_count, rounds.SoFar.gave_both, rounds.SoFar.continues_on, rounds.SoFar.limits_on, rounds.SoFar.longer_on, rounds.SoFar.more_of, rounds.SoFar.script_on, rounds.SoFar.threads_count, rounds.SoFar.total_few, rounds.SoFar.within_limits, rounds.Continuing.no_done, rounds.Continuing.none_given}
 
 -- a new collector is new for each script of this configuration with this number of programs
@@ -90,7 +90,7 @@ empty_limits words most valid config before may empty none =
         threads = (let f = may.few in omega (arith, f, count));
         total = subst (λ (n : ℕ). config.segments * config.words + n * config.nursery ≤ version_3.heap_words) (sym count) may.total;
         commands = no_commands (All (Fits config.words)) (length before) (All-nil (Fits config.words));
-        registers = no_commands (All (HasRegistersBelow REGISTERS)) (length before) (All-nil (HasRegistersBelow REGISTERS));
+        of_version = no_commands (All (IsOf version_3)) (length before) (All-nil (IsOf version_3));
       };
       few = (let none = none_in_all (length before) in omega (arith, none));
     })

@@ -1,6 +1,6 @@
 -- The script of a run of programs so far: after a round it is longer, and it fits a run.
-use Rattle.nmgc_cycle.proofs.Vocabulary.{ℕ, zero, suc, ◌≡◌, ◌⊎◌, ◌+◌, ◌*◌, ◌<◌, ◌≤◌, ◌++◌, ◌∙◌, List, [], ◌∷◌, map, drop, length, slice_get, slice_index, Option, None, Some, refl, sym, ap, subst, arith, inl, inr, append_assoc, map-append, length-append, length-map, drop_at, All, All-nil, All-cons, All-append, All-head, All-tail, slice_get_within, Fits, HasRegistersBelow, REGISTERS, Command, Reply, Done, Config, Script, most_total, sum_by, sum_by-cons, program_of, longer, longer_script, left_at, Gives, Follows, GaveEach, Continues, FollowEach, CanContinue, MayBeLonger, MayRun, FitsRun, threads_of, script_of, option_to_list, item}
-use Rattle.nmgc_script.specs.Spelling.{version_3}
+use Rattle.nmgc_cycle.proofs.Vocabulary.{ℕ, zero, suc, ◌≡◌, ◌⊎◌, ◌+◌, ◌*◌, ◌<◌, ◌≤◌, ◌++◌, ◌∙◌, List, [], ◌∷◌, map, drop, length, slice_get, slice_index, Option, None, Some, refl, sym, ap, subst, arith, inl, inr, append_assoc, map-append, length-append, length-map, drop_at, All, All-nil, All-cons, All-append, All-head, All-tail, slice_get_within, Fits, Command, Reply, Done, Config, Script, most_total, sum_by, sum_by-cons, program_of, longer, longer_script, left_at, Gives, Follows, GaveEach, Continues, FollowEach, CanContinue, MayBeLonger, MayRun, FitsRun, threads_of, script_of, option_to_list, item}
+use Rattle.nmgc_script.specs.{laws.Versions.since_last, Spelling.IsOf, Spelling.version_3}
 
 -- One program
 
@@ -139,9 +139,9 @@ all_wider small words (c ∷ l) le h =
     All-cons (Fits words) c l (record { registers = f.registers; numbers = f.numbers; size = (let s = f.size in omega (arith, le, s)) })
     (all_wider small words l le (All-tail (Fits small) c l h))
 
-all_registers : (words : ℕ) (l : List Command) → All (Fits words) l → All (HasRegistersBelow REGISTERS) l
-all_registers words [] h = All-nil (HasRegistersBelow REGISTERS)
-all_registers words (c ∷ l) h = All-cons (HasRegistersBelow REGISTERS) c l (All-head (Fits words) c l h).registers
+all_registers : (words : ℕ) (l : List Command) → All (Fits words) l → All (IsOf version_3) l
+all_registers words [] h = All-nil (IsOf version_3)
+all_registers words (c ∷ l) h = All-cons (IsOf version_3) c l ((All-head (Fits words) c l h).registers, since_last c)
     (all_registers words l (All-tail (Fits words) c l h))
 
 -- commands given one after the other
@@ -197,7 +197,7 @@ module _ {P : Type 0} (next : P → Option Command) (steps : P → Reply → P �
       threads = (let f = may.few in omega (arith, f, count));
       total = subst (λ (n : ℕ). config.segments * config.words + n * config.nursery ≤ version_3.heap_words) (sym count) may.total;
       commands = all_threads next (All (Fits config.words)) given after same_count fit;
-      registers = all_threads next (All (HasRegistersBelow REGISTERS)) given after same_count (λ k g q e f. all_registers config.words _ (fit k g q e f));
+      of_version = all_threads next (All (IsOf version_3)) given after same_count (λ k g q e f. all_registers config.words _ (fit k g q e f));
     };
     few = (let all = total_few given after gave in let short = may.short in omega (arith, all, short));
   }

@@ -153,6 +153,7 @@ module _ (P : Name → Type 0) (w : World) where
     step_turns (command.Weak dest key v finaliser) name = born_turn m dest _ lt own (All-nil (Names P)) name
     step_turns (command.Stack dest size) name = born_turn m dest _ lt own (All-nil (Names P)) name
     step_turns (command.Get dest object index) name = kept (keeping_kept w m dest _ lt name)
+    step_turns (command.Tag dest object) name = kept (keeping_kept w m dest _ lt name)
     step_turns (command.Set object index v) name = change_turn (value_for w m object) (change.Set index (value_for w m v)) tt (has v) name
     step_turns (command.Cas object index expected v) name =
         change_turn (value_for w m object) (change.Exchange index (value_for w m expected) (value_for w m v)) tt (has v) name

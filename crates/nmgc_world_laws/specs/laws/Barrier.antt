@@ -1,6 +1,6 @@
 -- The deletion barrier on one node: a change owes each value that it takes out of a strong field, and stores only its own.
 use Rattle.std.specs.Prelude.{◌≡◌, ◌-◌, ◌∷◌, ◌++◌, ◌⊎◌}
-use Rattle.nmgc_world_laws.specs.laws.Vocabulary.{ℕ, List, [], zero, suc, length, set, refl, ap, arith, Option, Some, None, Bool, true, false, cond, eqb, ltb, inl, inr, slice_get, All, Contains, IfSome, option_to_list, All-cons, All-nil, All-head, All-set, All-push, All-take, Name, Value, Node, Con, Var, Arr, Thunk, Weak, Stack, Reply, Fine, Yes, No, NoField, StackFull, StackEmpty, Change, is_same, given_or, field_read, result_read, exchanged_at, changed, last_of, stack_pushed, stack_popped, given, strong_fields, field_held, if_same, owed_in, free_held, top_held, strong_at, Fields, IsLater, item_has, contains_at, place_of, contains_option, kept_or_held, kept_or_last, slice_get-append, ne_eqb}
+use Rattle.nmgc_world_laws.specs.laws.Vocabulary.{ℕ, List, [], zero, suc, length, set, refl, ap, arith, Option, Some, None, Bool, true, false, cond, eqb, ltb, inl, inr, slice_get, All, Contains, IfSome, option_to_list, All-cons, All-nil, All-head, All-set, All-push, All-take, Name, Value, Node, Con, Var, Arr, Thunk, Weak, Stack, Reply, Fine, Yes, No, NoField, StackFull, StackEmpty, Change, Number, is_same, given_or, field_read, tag_read, result_read, exchanged_at, changed, last_of, stack_pushed, stack_popped, given, strong_fields, field_held, if_same, owed_in, free_held, top_held, strong_at, Fields, IsLater, item_has, contains_at, place_of, contains_option, kept_or_held, kept_or_last, slice_get-append, ne_eqb}
 use Rattle.nmgc_world_spec.specs.declared.change.Change.TheVariants as change
 
 -- a value in a strong field has a position
@@ -168,6 +168,15 @@ module _ (Q : Value → Type 0) where
   result_read_has (Thunk free (Some result)) h = All-head Q result [] h
   result_read_has (Weak parts) h = tt
   result_read_has (Stack size values) h = tt
+
+  -- the answer of `tag` is a number
+  pub tag_read_has : (node : Node) → ((n : ℕ) → Q (Number n)) → IfSome (given (tag_read node)) Q
+  tag_read_has (Con tag values) h = h tag
+  tag_read_has (Var old) h = tt
+  tag_read_has (Arr values) h = tt
+  tag_read_has (Thunk free result) h = tt
+  tag_read_has (Weak parts) h = tt
+  tag_read_has (Stack size values) h = tt
 
   -- the answer of a change was in a strong field
   two_answers : (b : Bool) (made kept : Node) (r s : Reply) → given r ≡ None → given s ≡ None →

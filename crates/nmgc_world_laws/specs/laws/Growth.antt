@@ -1,6 +1,6 @@
 -- A command leaves every name in the map, and lets no serial fall.
 use Rattle.std.specs.Prelude.{◌≡◌, ◌<◌, ◌≤◌, ◌+◌, ◌∷◌, ◌++◌}
-use Rattle.nmgc_world_laws.specs.laws.Vocabulary.{◌∙◌, ℕ, [], length, refl, sym, ap, subst, arith, inl, inr, length-append, Option, Some, None, Result, Ok, Err, IsSome, IfOk, OnErr, get_or-set_same, get_or-set_other, set_past, cases_lt, eqb_tells, NoMemory, Command, Num, Mov, Get, Set, Cas, Update, Force, Push, Pop, Deref, Finalise, NextFin, Show, Same, Yield, Collect, Full, Reply, Change, SHARED_MAKER, Name, Value, Node, MutatorState, World, state_of, node_of, serial_of, no_mutator, Grows, changed, with_state, with_new, with_nth, with_node, holding_given, keeping, born, change_node, change_object, change_asked, change_into, value_for, step, is_some_get, get_is_some, length-set}
+use Rattle.nmgc_world_laws.specs.laws.Vocabulary.{◌∙◌, ℕ, [], length, refl, sym, ap, subst, arith, inl, inr, length-append, Option, Some, None, Result, Ok, Err, IsSome, IfOk, OnErr, get_or-set_same, get_or-set_other, set_past, cases_lt, eqb_tells, NoMemory, Command, Num, Mov, Get, Tag, Set, Cas, Update, Force, Push, Pop, Deref, Finalise, NextFin, Show, Same, Yield, Collect, Full, Reply, Change, SHARED_MAKER, Name, Value, Node, MutatorState, World, state_of, node_of, serial_of, no_mutator, Grows, changed, with_state, with_new, with_nth, with_node, holding_given, keeping, born, change_node, change_object, change_asked, change_into, value_for, step, is_some_get, get_is_some, length-set}
 use Rattle.nmgc_world_spec.specs.declared.command.Command.TheVariants.{Nil, Con, Var, Arr, Thunk, Weak, Stack}
 use Rattle.nmgc_world_spec.specs.declared.command.Reply.TheVariants as reply
 use Rattle.nmgc_world_spec.specs.declared.change.Change.TheVariants as change
@@ -128,6 +128,7 @@ step_grows w m (Thunk dest free) lt = born_grows w m dest _ lt
 step_grows w m (Weak dest key v finaliser) lt = born_grows w m dest _ lt
 step_grows w m (Stack dest size) lt = born_grows w m dest _ lt
 step_grows w m (Get dest object index) lt = same_grows w _ m (keeping_same w m dest _)
+step_grows w m (Tag dest object) lt = same_grows w _ m (keeping_same w m dest _)
 step_grows w m (Set object index v) lt = same_grows w _ m (change_same w (value_for w m object) (change.Set index (value_for w m v)))
 step_grows w m (Cas object index expected v) lt =
     same_grows w _ m (change_same w (value_for w m object) (change.Exchange index (value_for w m expected) (value_for w m v)))

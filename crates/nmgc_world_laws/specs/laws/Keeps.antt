@@ -1,19 +1,28 @@
 -- The nodes, and the state of other mutators, after every command.
 use Rattle.std.proofs.{Common.◌≡◌, Common.◌≢◌, Common.◌<◌, Common.ℕ, Common.length, Common.refl, Common.sym, Common.ap, Common.subst, Common.◌∙◌, Common.length-set, Common.Option, Common.Some, Common.None, Common.inl, Common.inr, lemmas.Bool.cases_eq, lemmas.Bool.Decides.eqb_tells}
 use Rattle.std.specs.Prelude.{IfSome, All}
-use Rattle.nmgc_world_spec.specs.{declared.command.Command.Command, declared.change.Change.Change, declared.value.Name.Name, declared.value.Value.Value, declared.node.Node.Node, declared.mutator_state.MutatorState.MutatorState, World.World, World.state_of, World.node_of, World.held_by, World.changed, World.with_state, World.with_node, World.next_name, World.step, Pieces.with_nth}
+use Rattle.nmgc_world_spec.specs.{declared.command.Command.Command, declared.change.Change.Change, declared.value.Name.Name, declared.value.Value.Value, declared.node.Node.Node, declared.mutator_state.MutatorState.MutatorState, World.World, World.state_of, World.node_of, World.held_by, World.changed, World.tag_read, World.with_state, World.with_node, World.next_name, World.step, Pieces.with_nth, Known.given}
 use Rattle.nmgc_world_spec.specs.declared.command.Command.TheVariants as command
 use Rattle.nmgc_limits.specs.declared.mutators.TheConstants.{SHARED_MAKER}
 use Rattle.nmgc_lists.specs.laws.Items.{at_some}
-use Rattle.nmgc_world_laws.specs.{Shape.made_by, Leaves.SameHands, Leaves.StepLeavesOthers, laws.Barrier.Writes, laws.Steps.Hand, laws.Steps.Object, laws.Steps.Stepped, laws.Steps.AllHeld, laws.Steps.OfNumber, laws.Steps.step_is, laws.NodeLaws.state_same, laws.NodeLaws.state_other, laws.NodeLaws.nodes_kept, laws.NodeLaws.node_born, laws.NodeLaws.node_cases, laws.NodeLaws.as_many, laws.NodeLaws.maker_there}
+use Rattle.nmgc_world_laws.specs.{Shape.made_by, Leaves.SameHands, Leaves.StepLeavesOthers, laws.Barrier.Writes, laws.Barrier.tag_read_has, laws.Steps.Hand, laws.Steps.Object, laws.Steps.Stepped, laws.Steps.AllHeld, laws.Steps.OfNumber, laws.Steps.step_is, laws.NodeLaws.state_same, laws.NodeLaws.state_other, laws.NodeLaws.nodes_kept, laws.NodeLaws.node_born, laws.NodeLaws.node_cases, laws.NodeLaws.as_many, laws.NodeLaws.maker_there}
 
 -- a property that every value has
 abbrev pub Any : Value → Type 0
 Any v = Unit {0}
 
 any_held : (w : World) → AllHeld Any w
-any_held w = record { registers = λ k i d lt. tt; queues = λ k i d lt. tt; nodes = λ name. by_node (node_of w name) }
+any_held w = record {
+  registers = λ k i d lt. tt;
+  queues = λ k i d lt. tt;
+  nodes = λ name. by_node (node_of w name);
+  tags = λ name. tagged (node_of w name);
+}
   where
+    tagged : (o : Option Node) → IfSome o (λ (node : Node). IfSome (given (tag_read node)) Any)
+    tagged None = tt
+    tagged (Some node) = tag_read_has Any node (λ n. tt)
+
     by_node : (o : Option Node) → IfSome o (λ (node : Node). All Any (held_by node))
     by_node None = tt
     by_node (Some node) = λ i d lt. tt

@@ -1,6 +1,6 @@
 -- Commands that fit keep a world within the limits, and so does a closing.
 use Rattle.std.specs.Prelude.{◌≡◌, ◌≢◌, ◌<◌, ◌≤◌, ◌+◌, ◌∷◌}
-use Rattle.nmgc_world_laws.specs.laws.Vocabulary.{ℕ, List, [], length, map, sym, ap, subst, ◌∙◌, arith, Option, Some, None, inl, inr, IfSome, All, replicate, length-replicate, length-map, All-cons, All-nil, All-set, All-push, All-tail, All-head, All-replicate, Command, SHARED_MAKER, Name, Value, Node, Weak, MutatorState, Fits, World, state_of, node_of, held_by, changed, value_for, value_of, next_name, step, Row, closed_by, at_some, SameShape, kind_of, tag_of, part_count, words_of, made_by, IsSmall, HasLimits, IsNodeWithin, IsWithin, StepKeepsLimits, RowsKeepLimits, ClosingKeepsLimits}
+use Rattle.nmgc_world_laws.specs.laws.Vocabulary.{ℕ, List, [], length, map, sym, ap, subst, ◌∙◌, arith, Option, Some, None, inl, inr, IfSome, All, replicate, length-replicate, length-map, All-cons, All-nil, All-set, All-push, All-tail, All-head, All-replicate, Command, SHARED_MAKER, Name, Value, Node, Con, Weak, MutatorState, Fits, World, state_of, node_of, held_by, changed, tag_read, value_for, value_of, next_name, step, given, Row, closed_by, at_some, SameShape, kind_of, tag_of, part_count, words_of, made_by, IsSmall, HasLimits, IsNodeWithin, IsWithin, StepKeepsLimits, RowsKeepLimits, ClosingKeepsLimits}
 use Rattle.nmgc_world_spec.specs.declared.command.Command.TheVariants as command
 use Rattle.nmgc_world_spec.specs.declared.value.Value.TheVariants as value
 use Rattle.nmgc_world_laws.specs.laws.{Worlds.not_shared, NodeLaws.each_state, NodeLaws.states_kept, WorldSteps.step_keeps_world, Deaths.Dies, Deaths.dies_by, Steps.Hand, Steps.Object, Steps.Stepped, Steps.AllHeld, Steps.OfNumber, Steps.operand_held, Steps.operands_held, Steps.changed_held, Steps.step_is, Keeps.still_there, Keeps.stepped_nodes, NodeShapes.changed_shape}
@@ -67,8 +67,17 @@ module _ (words : ℕ) (w : World) (m : ℕ) (h : IsWithin words w) where
   number_fits _ f = tt
 
   all_small : AllHeld IsSmall w
-  all_small = record { registers = h.registers; queues = h.queues; nodes = λ name. by_node name (node_of w name) (h.nodes name) }
+  all_small = record {
+    registers = h.registers;
+    queues = h.queues;
+    nodes = λ name. by_node name (node_of w name) (h.nodes name);
+    tags = λ name. tagged name (node_of w name) (h.nodes name);
+  }
     where
+      tagged : (name : Name) (o : Option Node) → IfSome o (IsNodeWithin words name) → IfSome o (λ (node : Node). IfSome (given (tag_read node)) IsSmall)
+      tagged name (Some (Con tag values)) k = let low : tag < 256 = k.shape in omega (arith, low)
+      tagged name _ k = tt
+
       by_node : (name : Name) (o : Option Node) → IfSome o (IsNodeWithin words name) → IfSome o (λ (node : Node). All IsSmall (held_by node))
       by_node name None k = tt
       by_node name (Some node) k = k.held

@@ -1,11 +1,11 @@
 -- The changes that a command may make, for every command at once. P is the set of names that a mutator may get.
 use Rattle.std.specs.Prelude.{◌≡◌, ◌≢◌, ◌<◌, ◌∷◌, ◌⊎◌}
-use Rattle.nmgc_world_laws.specs.laws.Vocabulary.{ℕ, List, [], map, drop, length, set, refl, sym, ap, subst, ◌∙◌, length-set, Option, Some, None, inl, inr, slice_get, IsSome, IfSome, All, Contains, get_or_past, All-cons, All-nil, All-set, All-drop, All-replicate, All-get_or, cases_lt, Operand, Register, Shared, Command, Num, Mov, Get, Set, Cas, Update, Force, Push, Pop, Deref, Finalise, NextFin, Show, Same, Yield, Collect, Full, Reply, Change, SHARED_MAKER, Name, Value, Node, MutatorState, World, state_of, node_of, given, changed, field_read, result_read, shared_name, value_of, value_for, with_state, with_register, with_new, with_node, with_finaliser, holding_given, next_name, keeping, born, object_of, read_object, change_node, change_object, change_into, step, item_has, at_some, nothing_in, owed_at, owed_of, values_owed, Names, Fields, CoversReach, HasStrongField, StillThere, strong_at, IsLater}
+use Rattle.nmgc_world_laws.specs.laws.Vocabulary.{ℕ, List, [], map, drop, length, set, refl, sym, ap, subst, ◌∙◌, length-set, Option, Some, None, inl, inr, slice_get, IsSome, IfSome, All, Contains, get_or_past, All-cons, All-nil, All-set, All-drop, All-replicate, All-get_or, cases_lt, Operand, Register, Shared, Command, Num, Mov, Get, Tag, Set, Cas, Update, Force, Push, Pop, Deref, Finalise, NextFin, Show, Same, Yield, Collect, Full, Reply, Change, SHARED_MAKER, Name, Value, Node, MutatorState, World, state_of, node_of, given, changed, field_read, tag_read, result_read, shared_name, value_of, value_for, with_state, with_register, with_new, with_node, with_finaliser, holding_given, next_name, keeping, born, object_of, read_object, change_node, change_object, change_into, step, item_has, at_some, nothing_in, owed_at, owed_of, values_owed, Names, Fields, CoversReach, HasStrongField, StillThere, strong_at, IsLater}
 use Rattle.nmgc_world_spec.specs.declared.command.Command.TheVariants.{Nil, Con, Var, Arr, Thunk, Weak, Stack}
 use Rattle.nmgc_world_spec.specs.declared.command.Reply.TheVariants as reply
 use Rattle.nmgc_world_spec.specs.declared.change.Change.TheVariants as change
 use Rattle.nmgc_world_spec.specs.declared.value.Value.TheVariants as value
-use Rattle.nmgc_world_laws.specs.laws.{Barrier.IsStrongChange, Barrier.Writes, Barrier.changed_fields, Barrier.owed_fields, Barrier.field_read_has, Barrier.result_read_has, Barrier.answer_has, Barrier.stays_or_owed, Barrier.same_later, Barrier.changed_later, NodeLaws.each_state, NodeLaws.nodes_kept, NodeLaws.node_born, NodeLaws.next_is_new, NodeLaws.node_cases, NodeLaws.states_kept, NodeLaws.as_many}
+use Rattle.nmgc_world_laws.specs.laws.{Barrier.IsStrongChange, Barrier.Writes, Barrier.changed_fields, Barrier.owed_fields, Barrier.field_read_has, Barrier.tag_read_has, Barrier.result_read_has, Barrier.answer_has, Barrier.stays_or_owed, Barrier.same_later, Barrier.changed_later, NodeLaws.each_state, NodeLaws.nodes_kept, NodeLaws.node_born, NodeLaws.next_is_new, NodeLaws.node_cases, NodeLaws.states_kept, NodeLaws.as_many}
 
 -- the command neither makes nor reads a weak pointer
 abbrev pub IsStrong : Command → Type 0
@@ -266,6 +266,8 @@ module _ (P : Name → Type 0) where
   step_moves w m (Stack dest size) s lt own g p h = born_moves w m dest _ lt own h p (All-nil (Names P))
   step_moves w m (Get dest object index) s lt own g p h = keeping_moves w m dest _ lt h (reading_gives w (value_for w m object) (λ node.
       field_read node index) (λ node f. field_read_has (Names P) node index f) h (operand_has (state_of w m).registers object g (h.registers m)))
+  step_moves w m (Tag dest object) s lt own g p h = keeping_moves w m dest _ lt h (reading_gives w (value_for w m object) tag_read (λ node f.
+      tag_read_has (Names P) node (λ n. tt)) h (operand_has (state_of w m).registers object g (h.registers m)))
   step_moves w m (Set object index v) s lt own g p h =
       change_moves w (value_for w m object) (change.Set index (value_for w m v)) tt (operand_has (state_of w m).registers v g (h.registers m)) h
       (operand_has (state_of w m).registers object g (h.registers m))

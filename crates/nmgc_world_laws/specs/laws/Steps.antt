@@ -3,7 +3,7 @@
 --
 -- Q is a property of values. The values of the world and the values that the command brings have Q.
 use Rattle.std.specs.Prelude.{◌≡◌, ◌-◌, ◌∷◌, ◌++◌}
-use Rattle.nmgc_world_laws.specs.laws.Vocabulary.{ℕ, List, [], length, map, set, drop, refl, sym, subst, Option, Some, None, Bool, true, false, eqb, ltb, inl, inr, slice_get, IfSome, All, get_or_past, All-cons, All-nil, All-head, All-set, All-push, All-take, All-drop, All-get_or, cases_lt, Operand, Register, Shared, Command, Reply, Change, Name, Value, Node, Con, Var, Arr, Thunk, Weak, Stack, MutatorState, World, state_of, node_of, given, held_by, changed, field_read, result_read, value_read, stack_pushed, stack_popped, shared_name, value_of, value_for, with_state, with_register, with_node, with_finaliser, holding_given, keeping, born, object_of, read_object, change_node, change_object, change_into, asked, step, item_has, at_some, Fields, made_by}
+use Rattle.nmgc_world_laws.specs.laws.Vocabulary.{ℕ, List, [], length, map, set, drop, refl, sym, subst, Option, Some, None, Bool, true, false, eqb, ltb, inl, inr, slice_get, IfSome, All, get_or_past, All-cons, All-nil, All-head, All-set, All-push, All-take, All-drop, All-get_or, cases_lt, Operand, Register, Shared, Command, Reply, Change, Name, Value, Node, Con, Var, Arr, Thunk, Weak, Stack, MutatorState, World, state_of, node_of, given, held_by, changed, field_read, tag_read, result_read, value_read, stack_pushed, stack_popped, shared_name, value_of, value_for, with_state, with_register, with_node, with_finaliser, holding_given, keeping, born, object_of, read_object, change_node, change_object, change_into, asked, step, item_has, at_some, Fields, made_by}
 use Rattle.nmgc_world_spec.specs.declared.command.Command.TheVariants as command
 use Rattle.nmgc_world_spec.specs.declared.command.Reply.TheVariants as reply
 use Rattle.nmgc_world_spec.specs.declared.change.Change.TheVariants as change
@@ -28,11 +28,12 @@ pub record Stepped (Q : Value → Type 0) (w : World) (m : ℕ) (c : Command) (v
   pub object : Object Q w m c between
   pub hand : Hand Q between m v
 
--- every value that a world holds has Q
+-- every value that a world holds has Q, and so has each constructor's tag
 pub record AllHeld (Q : Value → Type 0) (w : World) : Type 0 where
   pub registers : (k : ℕ) → All Q (state_of w k).registers
   pub queues : (k : ℕ) → All Q (state_of w k).queue
   pub nodes : (name : Name) → IfSome (node_of w name) (λ (node : Node). All Q (held_by node))
+  pub tags : (name : Name) → IfSome (node_of w name) (λ (node : Node). IfSome (given (tag_read node)) Q)
 
 -- the number that a command brings has Q
 abbrev pub OfNumber : (Value → Type 0) → Command → Type 0
@@ -138,6 +139,15 @@ module _ (Q : Value → Type 0) where
   value_read_held (Weak None) h = tt
   value_read_held (Weak (Some parts)) h = item_has Q (parts.key ∷ parts.value ∷ parts.finaliser ∷ []) 1 h
   value_read_held (Stack size values) h = tt
+
+  tag_held : (w : World) (v : Value) → AllHeld Q w → IfSome (given (read_object (object_of w v) tag_read)) Q
+  tag_held w value.Nil h = tt
+  tag_held w (value.Number n) h = tt
+  tag_held w (value.Ref name) h = by_node (node_of w name) (h.tags name)
+    where
+      by_node : (o : Option Node) → IfSome o (λ (node : Node). IfSome (given (tag_read node)) Q) → IfSome (given (read_object o tag_read)) Q
+      by_node None k = tt
+      by_node (Some node) k = k
 
   reading_held : (w : World) (v : Value) (read : Node → Reply) → ((node : Node) → Held node → IfSome (given (read node)) Q) → AllHeld Q w →
       IfSome (given (read_object (object_of w v) read)) Q
@@ -271,6 +281,7 @@ module _ (Q : Value → Type 0) where
   step_is w m (command.Stack dest size) h b = born_steps w m _ h dest _ refl
   step_is w m (command.Get dest object index) h b = reading_steps w m _ h dest _ (reading_held w (value_for w m object) (λ node.
       field_read node index) (λ node f. field_read_has Q node index (strong_held node f)) h)
+  step_is w m (command.Tag dest object) h b = reading_steps w m _ h dest _ (tag_held w (value_for w m object) h)
   step_is w m (command.Set object index v) h b = change_only w m _ h (value_for w m object) (change.Set index (value_for w m v)) refl (operand_has w m _ v h b)
   step_is w m (command.Cas object index expected v) h b =
       change_only w m _ h (value_for w m object) (change.Exchange index (value_for w m expected) (value_for w m v)) refl (operand_has w m _ v h b)

@@ -1,11 +1,11 @@
 -- A command leaves a world: every reference in it still names a node of it.
 use Rattle.std.specs.Prelude.{◌≡◌, ◌<◌, ◌∷◌}
-use Rattle.nmgc_world_laws.specs.laws.Vocabulary.{ℕ, [], length, refl, sym, subst, ◌∙◌, arith, Option, Some, None, inl, inr, IsSome, All-nil, All-cons, All-replicate, eqb_tells, SHARED_MAKER, Command, Reply, Change, Value, Node, World, IsWorld, IsKnown, IsKnownReply, IsKnownChange, node_of, changed, field_read, result_read, value_read, CanApply, step, value_for, keeping, change_node, change_object, change_into, one_has, some_is}
+use Rattle.nmgc_world_laws.specs.laws.Vocabulary.{ℕ, [], length, refl, sym, subst, ◌∙◌, arith, Option, Some, None, inl, inr, IsSome, All-nil, All-cons, All-replicate, eqb_tells, SHARED_MAKER, Command, Reply, Change, Value, Node, World, IsWorld, IsKnown, IsKnownReply, IsKnownChange, node_of, changed, field_read, tag_read, result_read, value_read, CanApply, step, value_for, keeping, change_node, change_object, change_into, one_has, some_is}
 use Rattle.nmgc_world_spec.specs.declared.command.Command.TheVariants as command
 use Rattle.nmgc_world_spec.specs.declared.command.Reply.TheVariants as reply
 use Rattle.nmgc_world_spec.specs.declared.change.Change.TheVariants as change
 use Rattle.nmgc_world_spec.specs.declared.value.Value.TheVariants as value
-use Rattle.nmgc_world_laws.specs.laws.{Nodes.field_read_known, Nodes.result_read_known, Nodes.value_read_known, Worlds.holding_keeps, Worlds.finaliser_keeps, Worlds.born_keeps, Worlds.operand_known, Worlds.operands_known, Worlds.read_known, Worlds.is_shared, Worlds.shared_changed, Worlds.shared_reply, Worlds.in_state, Worlds.nth_changed, Worlds.nth_reply, NodeLaws.as_many, HeldSteps.some_of as there_is}
+use Rattle.nmgc_world_laws.specs.laws.{Barrier.tag_read_has, Nodes.field_read_known, Nodes.result_read_known, Nodes.value_read_known, Worlds.holding_keeps, Worlds.finaliser_keeps, Worlds.born_keeps, Worlds.operand_known, Worlds.operands_known, Worlds.read_known, Worlds.is_shared, Worlds.shared_changed, Worlds.shared_reply, Worlds.in_state, Worlds.nth_changed, Worlds.nth_reply, NodeLaws.as_many, HeldSteps.some_of as there_is}
 
 -- the result of a change: a world, and a reply with a known value
 abbrev Leaves : World × Reply → Type 0
@@ -101,6 +101,8 @@ step_keeps_world w m (command.Stack dest size) h can = born_keeps w m dest _ h c
 })
 step_keeps_world w m (command.Get dest object index) h can = keeping_keeps w m dest _ h can.mutator (read_known w h (value_for w m object) (λ found.
     field_read found index) (λ node known. field_read_known w node index known))
+step_keeps_world w m (command.Tag dest object) h can =
+    keeping_keeps w m dest _ h can.mutator (read_known w h (value_for w m object) tag_read (λ node known. tag_read_has (IsKnown w) node (λ n. tt)))
 step_keeps_world w m (command.Set object index v) h can =
     (change_keeps w h (value_for w m object) (change.Set index (value_for w m v)) (operand_known w m h can.mutator v can.registers.1)).0
 step_keeps_world w m (command.Cas object index expected v) h can =
