@@ -16,6 +16,7 @@ pub mod LongerRuns
 pub mod MarkedBeside
 pub mod Meeting
 pub mod NoneLeft
+pub mod ObservedSoFar
 pub mod Opened
 pub mod Over
 pub mod OwnRows

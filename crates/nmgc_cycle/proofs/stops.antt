@@ -6,9 +6,11 @@ pub mod Censuses
 pub mod Counted
 pub mod EnoughFree
 pub mod Forgetting
+pub mod Handing
 pub mod ListOver
 pub mod MarksOn
 pub mod Noted
+pub mod Observing
 pub mod Promoted
 pub mod Promoting
 pub mod StopAnswers

@@ -6,6 +6,7 @@ pub mod FullLaws
 pub mod Keeps
 pub mod Lined
 pub mod Listed
+pub mod Observed
 pub mod Programs
 pub mod Roots
 pub mod RoundLaws

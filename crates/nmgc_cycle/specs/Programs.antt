@@ -7,13 +7,13 @@ use Rattle.std.specs.Prelude.{ℕ, zero, suc, ◌≡◌, ◌⊎◌, ◌+◌, ◌
 use Rattle.nmgc_world_spec.specs.{declared.command.Command.Command, declared.command.Reply.Reply, World.Fits}
 use Rattle.nmgc_limits.specs.declared.mutators.TheConstants.{MAKERS}
 use Rattle.nmgc_script.specs.{declared.script.Config.Config, declared.script.Script.Script, Spelling.FitsConfig, Parts.total_words, Spelling.version_3}
-use Rattle.nmgc_journal.specs.{declared.report.Report.Report, declared.report.RoundRows.RoundRows}
+use Rattle.nmgc_journal.specs.{declared.report.End.End, declared.report.Report.Report, declared.report.RoundRows.RoundRows}
 use Rattle.nmgc_run_spec.specs.{Lawful.IsRunOf, AfterRound.program_of}
 use Rattle.nmgc_run_laws.specs.{Limits.FitsRun, Limits.most_commands, Longer.longer}
 use Rattle.nmgc_collector_laws.specs.Worked.{Done}
 use Rattle.nmgc_round.specs.{declared.table.Round.Round, View.Opening}
 use Rattle.nmgc_mutator.specs.{declared.mutator.Mutator.Mutator, declared.program.Listed.Listed, Programs.Gives, Programs.Follows, Slice.HasRoom}
-use Rattle.nmgc_cycle.specs.{declared.collector.Collector.Collector, declared.worker.Worker.Worker, Keeps.CanStop, Keeps.DidRound, Working.left_at, Working.DidSlices, Working.HaveAllWorked, Working.HaveTried, Working.in_blocks}
+use Rattle.nmgc_cycle.specs.{declared.collector.Collector.Collector, declared.worker.Worker.Worker, Keeps.CanStop, Keeps.DidRound, Keeps.HasEnded, Working.left_at, Working.DidSlices, Working.HaveAllWorked, Working.HaveTried, Working.in_blocks}
 use Rattle.nmgc_mutator.specs.declared.mutator.TheConstants.{MOST_PUSHED}
 use Rattle.nmgc_updrem.specs.Rings.{Receiver}
 
@@ -188,6 +188,16 @@ pub record MayRun {P : Type 0} (words most : P → ℕ) (valid : P → Type 0) (
   pub valid_are : (k : ℕ) (p : P) → slice_get programs k ≡ Some p → valid p
   pub fit : (k : ℕ) (p : P) → slice_get programs k ≡ Some p → words p ≤ config.words
   pub short : most_total most programs ≤ most_commands
+
+-- programs ran to this end. They gave commands, and the collector's run of the script that they turned out to have has ended.
+-- The replies in its rows are those that they took
+pub record HasRunPrograms {P : Type 0} (next : P → Option Command) (steps : P → Reply → P → Type 0) (words most : P → ℕ) (valid : P → Type 0)
+    (config : Config) (before after : List P) (c : Collector) (end : End) : Type 0 where
+  pub given : List (List Done)
+  pub gave : GaveEach next steps words most valid before after given
+  pub limits : FitsRun (script_of next config given after)
+  pub ended : HasEnded (script_of next config given after) c end
+  pub replies : (k : ℕ) (d : List Done) → slice_get given k ≡ Some d → all_replies c.rows.rounds k ≡ replies_to d
 
 -- the promise for programs. They gave commands and took the report's replies, each in order. The report is lawful for the
 -- script of these commands and of each program's next one, which fits a run

@@ -5,6 +5,8 @@
 //! never be filled is taken before it, and gets none of them. A cycle takes the sweeper's lists. The first cycle also takes
 //! the marker's list, whose memory each later marker takes over.
 //!
+//! A run keeps no row: an observer is given the rows as they come (`run_observed`). `run` has an observer that keeps them.
+//!
 //! The report is made when nothing may fail any more. So it takes over the table of words, without a copy. The final
 //! registers, queues and serials go into a list that is empty until then, with room from the beginning (`IsWellFormed`).
 //!
@@ -13,7 +15,7 @@
 //! begins. `specs/Bound.antt` bounds the rounds that may follow, so a stop's number has 32 bits.
 //!
 //! Easy to get wrong: a command that waits for room in the nursery wasn't answered, so its program still has it left.
-ghost use Rattle.std.specs.Prelude.{◌≡◌, ℕ, ◌+◌, ◌<◌, ◌≤◌, ◌⊎◌, [], length, map, slice_get, slice_index, vec_len, vec_capacity, Some, IfOk};
+ghost use Rattle.std.specs.Prelude.{◌≡◌, ℕ, ◌+◌, ◌<◌, ◌≤◌, ◌⊎◌, [], length, map, slice_get, slice_index, vec_len, vec_capacity, Some, false, IfOk, OnErr, OnOk, All};
 ghost use Rattle.nmgc_limits.specs.declared.mutators.TheConstants.{SHARED_SLOTS};
 ghost use Rattle.nmgc_object.specs.{declared.layout.TheConstants.SHARED_PLACE, declared.size.TheConstants.HEADER_WORDS, Layouts.IsLayout};
 ghost use Rattle.nmgc_round.specs.Empty.{IsEmptyHeap};
@@ -22,11 +24,13 @@ ghost use Rattle.nmgc_script.specs.{declared.script.Script.Script as ScriptSeen,
 ghost use Rattle.nmgc_run_laws.specs.Limits.{FitsRun};
 ghost use Rattle.nmgc_run_spec.specs.{Run.plan_of, Run.layout_of as planned_layout, Lawful.IsRunOf, AtStop.IsLawfulAtStop};
 ghost use Rattle.nmgc_collector_laws.specs.{Seen.end_of as reported_end, Heaps.seen_mutator};
-ghost use Rattle.nmgc_cycle.specs.{Shown.report_of, Shown.turns_of, Shown.upper_turns_of, Lined.IsLined, Keeps.IsFresh, Keeps.HasEnded};
+ghost use Rattle.nmgc_cycle.specs.{Shown.report_of, Shown.report_row, Shown.report_cycles, Shown.HasNamesOnce, Observed.FailedStop, Observed.ObservedPart, Observed.ObservedRun, Observed.ObservedStop, Shown.turns_of, Shown.upper_turns_of, Lined.IsLined, Keeps.IsFresh, Keeps.HasEnded};
 
 use crate::name_notes::put_rows_in_order;
+use crate::observer::{Event, KeptRows, Observer, RunFault};
+use crate::past_rows::PastRows;
 use crate::progress::Progress;
-use crate::stop::StopEnd;
+use crate::stop::{StopEnd, StopRows};
 use crate::worker::WorkerRoom;
 use nmgc_alloc::Segments;
 use nmgc_journal::{CycleRow, End, FinalWords, MutatorEnd, Report, RoundRows, StopRow};
@@ -49,7 +53,7 @@ use nmgc_world_spec::{Kind, Name};
 use std::alloc::Global;
 use std::thread::Threads;
 
-/// The state of a run: its heap, its mutators, and the rows of its report so far.
+/// The state of a run: its heap, its mutators, and the number of its rows so far.
 #[derive(Drop)]
 pub struct Collector {
     pub(crate) alloc: Global,
@@ -100,13 +104,13 @@ pub(crate) struct CycleState {
     pub(crate) upper_turns: u64,
 }
 
-// The report's rows of the rounds, the stops and the cycles.
+// The rows of the rounds, the stops and the cycles so far, as contracts see them.
 #[derive(Drop)]
 pub(crate) struct Rows {
-    pub(crate) rounds: List<RoundRows>,
-    pub(crate) stops: List<StopRow>,
+    pub(crate) rounds: PastRows<RoundRows>,
+    pub(crate) stops: PastRows<StopRow>,
     // The cycles that ended.
-    pub(crate) cycles: List<CycleRow>,
+    pub(crate) cycles: PastRows<CycleRow>,
 }
 
 // Memory that the report takes as the run ends, when no other memory may be taken.
@@ -267,9 +271,9 @@ impl Collector {
             inbox,
             positions,
             rows: Rows {
-                rounds: List::new(alloc),
-                stops: List::new(alloc),
-                cycles: List::new(alloc),
+                rounds: PastRows::new(),
+                stops: PastRows::new(),
+                cycles: PastRows::new(),
             },
             cycle: CycleState {
                 progress: Progress::Idle,
@@ -304,13 +308,45 @@ impl Collector {
         requires { IsInLimits script.now }
         ensures { IfOk result (λ report. IsRunOf script.now report) }
     {
+        let mut kept = KeptRows::new(alloc);
+        let Ok(ran) = Collector::run_observed(alloc, rt, script, gate, &mut kept) else {
+            return Err(NoMemory);
+        };
+        let (collector, end) = ran;
+        Ok(collector.into_report(kept, end))
+    }
+
+    /// Does a whole run of a script as `run` does, and gives `observer` each event as it comes. A stop's event has its row and
+    /// the rows of the cycles that ended at it, with their names in order. A round's event has its replies. Returns the
+    /// collector and the run's end. No row is kept here, so a long run takes memory for the heap and for one round.
+    ///
+    /// The observer was given exactly the events of the run, in order. A run whose observer fails is given up, and so is one
+    /// that needs memory and gets none. Then the observer was given the events of a lawful run so far. If it failed itself, it
+    /// did at the last of them (clause `err`). Requires a script with at most 2^31 commands in all (`FitsRun`).
+    pub fn run_observed<R: Threads + Sync, G: Gate, J: Observer>(
+        alloc: Global,
+        rt: &R,
+        script: &Script,
+        gate: &G,
+        observer: &mut J,
+    ) -> Result<(Collector, End), RunFault>
+        requires { FitsRun script.now }
+        ensures ok { IfOk result (λ ran. HasEnded script.now ran.0 ran.1 × ObservedRun J.steps observer.old ran.0 false observer.new) }
+        ensures err { OnErr result (ObservedPart J.steps J.fails script.now observer.old observer.new) }
+    {
         let mut collector = Collector::new(alloc, script)?;
         'stops: loop {
-            match collector.stop(rt, script)? {
-                StopEnd::GoOn => collector.round(rt, script, gate)?,
-                StopEnd::Done => return Ok(collector.into_report(End::Done)),
+            let mut handed = StopRows::new(alloc);
+            let answer = collector.stop(rt, script, &mut handed)?;
+            observe_stop(observer, handed)?;
+            match answer {
+                StopEnd::GoOn => {
+                    let rows = collector.round(rt, script, gate)?;
+                    observer.observe(Event::Round(rows))?;
+                }
+                StopEnd::Done => return Ok((collector, End::Done)),
                 StopEnd::HeapFull { free, reserve } => {
-                    return Ok(collector.into_report(End::HeapFull { free, reserve }));
+                    return Ok((collector, End::HeapFull { free, reserve }));
                 }
             }
         }
@@ -331,11 +367,12 @@ impl Collector {
         &self.inbox
     }
 
-    /// Turns the collector into the report of its run, which is lawful. Requires that the last stop ended the run with `end`.
-    /// The report has the collector's rows, words and segments, and each mutator's registers, queue and serial as they are.
-    /// The names in a cycle's row are put in order. Takes no memory, and copies no word of the heap.
-    pub fn into_report(self, end: End) -> Report
-        requires { (script : ScriptSeen) × HasEnded script self end }
+    /// Turns the collector into the report of its run, which is lawful. Requires that the last stop ended the run with `end`,
+    /// and that `kept` has the run's rows. The report has these rows, the collector's words and segments, and each mutator's
+    /// registers, queue and serial as they are. Takes no memory, and copies no word of the heap.
+    pub fn into_report(self, kept: KeptRows, end: End) -> Report
+        requires ended { (script : ScriptSeen) × HasEnded script self end }
+        requires kept { (kept.rounds ≡ self.rows.rounds) × (kept.stops ≡ self.rows.stops) × (kept.cycles ≡ report_cycles self) }
         ensures parts { result ≡ report_of self end }
         ensures reported { (script : ScriptSeen) → HasEnded script self end → IsLawfulAtStop (plan_of script) result }
     {
@@ -346,7 +383,7 @@ impl Collector {
             workers: _,
             inbox: _,
             positions: _,
-            rows,
+            rows: _,
             cycle: _,
             answered: _,
             report,
@@ -359,14 +396,13 @@ impl Collector {
             names: _,
             weaks,
         } = heap;
-        let Rows {
+        let KeptRows {
             rounds,
             stops,
-            mut cycles,
-        } = rows;
+            cycles,
+        } = kept;
         let words = words.unwrap().close();
         let ends = all_ends(mutators, report.ends);
-        put_rows_in_order(cycles.items_mut());
         Report {
             rounds,
             stops,
@@ -378,6 +414,21 @@ impl Collector {
             end,
         }
     }
+}
+
+/// Gives an observer the rows of a stop, after putting the names in the cycles' rows in order. Requires that no row has a name
+/// twice. Takes no memory of its own, but time to sort the spans of names.
+pub(crate) fn observe_stop<J: Observer>(observer: &mut J, rows: StopRows) -> Result<(), RunFault>
+    requires { All HasNamesOnce rows.cycles }
+    ensures ok { OnOk result (ObservedStop J.steps observer.old rows.stop (map report_row rows.cycles) observer.new) }
+    ensures err { OnErr result (FailedStop J.fails observer.old rows.stop (map report_row rows.cycles) observer.new) }
+{
+    let StopRows { stop, mut cycles } = rows;
+    put_rows_in_order(cycles.items_mut());
+    if let Some(row) = stop {
+        observer.observe(Event::Stop { row, cycles })?;
+    }
+    Ok(())
 }
 
 // Returns `ends`, filled with the final registers, queue and serial of each mutator. `ends` has to be empty, with room.

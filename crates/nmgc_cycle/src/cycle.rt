@@ -14,7 +14,7 @@ ghost use Rattle.nmgc_object.specs.declared.layout.TheConstants.{FIRST_PLACE};
 ghost use Rattle.nmgc_alloc.specs.Segments.{IsSegments};
 ghost use Rattle.nmgc_mark.specs.Marker.{HasRoomToMark};
 ghost use Rattle.nmgc_segment.specs.Marks.{epoch_of as epoch_by, IsEpoch};
-ghost use Rattle.nmgc_cycle.specs.{Roots.queues_in, Shown.words_in, Lined.IsLined, Lined.IsPaired, Lined.AnyLine, Lined.HasForgotten, Lined.HaveForgottenSoFar, Lined.HaveLines};
+ghost use Rattle.nmgc_cycle.specs.{Roots.queues_in, Shown.words_in, Lined.IsLined, Lined.IsPaired, Lined.AnyLine, Lined.HasForgotten, Lined.HaveForgottenSoFar, Lined.HaveLines, Observed.HandsOn};
 ghost use Rattle.nmgc_updrem.specs.{Lines.TakesRestSo, Lines.IsLevelSo, Rings.AtLine};
 ghost use Rattle.nmgc_mutator.specs.{declared.mutator.Mutator.Mutator as MutatorSeen, Does.remembered};
 ghost use Rattle.nmgc_cycle.specs.Cycles.{remembered_by, CanAdd, HasAdded, HasTaken, CanClose, Closes, HasClosed, IsClosed, IsReadyToClose, row_of as row_shown, IsSwept, Ends, IsDue, CanBegin, StartsMarking, HasStarted, Begins};
@@ -215,9 +215,10 @@ impl Collector {
         }
     }
 
-    // If a cycle sweeps and no segment waits, ends the cycle: adds its row, and keeps the sweeper's counts of passes.
-    pub(crate) fn try_end(&mut self, stop: u32) -> Result<(), NoMemory>
-        ensures { OnOk result (Ends stop self.old.cycle.progress self.old self.new) }
+    // If a cycle sweeps and no segment waits, ends the cycle: hands its row on, and keeps the sweeper's counts of passes.
+    pub(crate) fn try_end(&mut self, stop: u32, rows: &mut List<CycleRow>) -> Result<(), NoMemory>
+        ensures ends { OnOk result (Ends stop self.old.cycle.progress self.old self.new) }
+        ensures handed { OnOk result (HandsOn self.old.rows.cycles self.new.rows.cycles rows.old rows.new) }
     {
         if !self.is_swept() {
             return Ok(());
@@ -230,7 +231,8 @@ impl Collector {
         self.cycle.turns = sweeping.sweeper.turns;
         self.cycle.upper_turns = sweeping.sweeper.upper_turns;
         let row = row_of(self.cycle.begun, sweeping, dead, stop)?;
-        self.rows.cycles.push(row)
+        self.rows.cycles.note(&row);
+        rows.push(row)
     }
 
     // Whether a cycle is due: none is in progress, and either one was asked for, or `trigger` isn't 0 and at least `trigger`

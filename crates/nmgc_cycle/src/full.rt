@@ -7,14 +7,15 @@
 //! Easy to get wrong: current and active segments are swept only if they are filed as filled before the cycle begins. And the
 //! cycle in progress is closed whatever its marker's last work answered: the closing scans the rest.
 ghost use Rattle.std.specs.Prelude.{◌≡◌, ◌↔◌, ◌+◌, ◌<◌, ◌^◌, OnOk, IsSome, IsTrue};
-ghost use Rattle.nmgc_cycle.specs.{Roots.queues_in, Shown.words_in, Cycles.HasClosed, FullLaws.StandsAtStop};
+ghost use Rattle.nmgc_cycle.specs.{Roots.queues_in, Shown.words_in, Cycles.HasClosed, FullLaws.StandsAtStop, Observed.HandsOn};
 ghost use Rattle.nmgc_cycle.specs.Full.{is_short_of, IsFullDue, CanCloseNow, ClosesNow, CanSweepRest, HasSweptRest, HasFinished, HasDoneFull, Proceeds};
 
 use crate::Collector;
 use crate::cycle::segments_are_sound;
 use crate::progress::Progress;
 use crate::stop_laws::{a_due_cycle_leads, a_finish_leads};
-use nmgc_lists::NoMemory;
+use nmgc_journal::CycleRow;
+use nmgc_lists::{List, NoMemory};
 use std::mem;
 use std::thread::Threads;
 
@@ -59,29 +60,41 @@ impl Collector {
         }
     }
 
-    // Closes, sweeps and ends the cycle in progress at this stop, if there is one.
-    fn finish_cycle<R: Threads + Sync>(&mut self, rt: &R, stop: u32) -> Result<(), NoMemory>
+    // Closes, sweeps and ends the cycle in progress at this stop, if there is one, and hands its row on.
+    fn finish_cycle<R: Threads + Sync>(
+        &mut self,
+        rt: &R,
+        stop: u32,
+        rows: &mut List<CycleRow>,
+    ) -> Result<(), NoMemory>
         requires stands { StandsAtStop stop self.old }
-        ensures { OnOk result (HasFinished stop self.old self.new) }
+        ensures finished { OnOk result (HasFinished stop self.old self.new) }
+        ensures handed { OnOk result (HandsOn self.old.rows.cycles self.new.rows.cycles rows.old rows.new) }
     {
         a_finish_leads();
         self.close_now(stop);
         self.sweep_rest(rt);
-        self.try_end(stop)?;
+        self.try_end(stop, rows)?;
         Ok(())
     }
 
     // Does a full cycle at this stop, and clears the requests for a cycle and for a full cycle.
-    fn do_full_cycle<R: Threads + Sync>(&mut self, rt: &R, stop: u32) -> Result<(), NoMemory>
+    fn do_full_cycle<R: Threads + Sync>(
+        &mut self,
+        rt: &R,
+        stop: u32,
+        rows: &mut List<CycleRow>,
+    ) -> Result<(), NoMemory>
         requires stands { StandsAtStop stop self.old }
         requires number { self.old.cycle.begun + 1 < 2 ^ 32 }
-        ensures { OnOk result (HasDoneFull stop self.old self.new) }
+        ensures full { OnOk result (HasDoneFull stop self.old self.new) }
+        ensures handed { OnOk result (HandsOn self.old.rows.cycles self.new.rows.cycles rows.old rows.new) }
     {
         a_due_cycle_leads();
-        self.finish_cycle(rt, stop)?;
+        self.finish_cycle(rt, stop, rows)?;
         self.heap.segments.retire_all();
         self.start(stop)?;
-        self.finish_cycle(rt, stop)?;
+        self.finish_cycle(rt, stop, rows)?;
         self.cycle.collect = false;
         self.cycle.full = false;
         Ok(())
@@ -94,14 +107,16 @@ impl Collector {
         left: bool,
         trigger: u32,
         stop: u32,
+        rows: &mut List<CycleRow>,
     ) -> Result<(), NoMemory>
         requires stands { StandsAtStop stop self.old }
         requires number { self.old.cycle.begun + 1 < 2 ^ 32 }
-        ensures { OnOk result (Proceeds trigger left stop self.old self.new) }
+        ensures proceeds { OnOk result (Proceeds trigger left stop self.old self.new) }
+        ensures handed { OnOk result (HandsOn self.old.rows.cycles self.new.rows.cycles rows.old rows.new) }
     {
         a_due_cycle_leads();
         if self.is_full_due(left) {
-            self.do_full_cycle(rt, stop)?;
+            self.do_full_cycle(rt, stop, rows)?;
             Ok(())
         } else {
             self.try_begin(trigger, stop)?;

@@ -4,7 +4,8 @@
 //! thread of its own, and the collector works beside them. One table of words lasts for the whole run. At a stop no mutator
 //! runs: objects are promoted into segments, the cycle advances, and the stop's row is written (Note [The steps of a stop] in
 //! stop.rt). `Collector::run` does a whole run; `new`, `stop`, `round` and `into_report` are its parts. `run_programs` does a
-//! run of programs that decide (`programs`), with `stop_programs` and `round_programs`. A script's programs are lists.
+//! run of programs that decide (`programs`), with `stop_programs` and `round_programs`. A script's programs are lists. Rows
+//! are handed on as they come (`past_rows`): `run_observed` gives them to an observer (`observer`), and `run` keeps them.
 //!
 //! The invariant of a collector between calls is in `specs/Keeps.antt`. The collector's rows describe one run of the script,
 //! as `nmgc_run_spec` defines runs, and its words, segments, mutators, marker and sweeper represent the last state of this
@@ -26,6 +27,8 @@ mod collector;
 mod cycle;
 mod full;
 mod name_notes;
+mod observer;
+mod past_rows;
 mod programs;
 mod progress;
 mod round;
@@ -36,4 +39,6 @@ mod weaks;
 mod worker;
 
 pub use collector::Collector;
-pub use stop::StopEnd;
+pub use name_notes::put_rows_in_order;
+pub use observer::{Event, Forgetful, KeptRows, Observer, RunFault};
+pub use stop::{StopEnd, StopRows};

@@ -9,10 +9,12 @@
 //! that waits for room is asked for again in the next round, and the program gives the same command.
 //!
 //! Easy to get wrong: a program at its end gives no command in a later round either. Its state doesn't change any more.
-ghost use Rattle.std.specs.Prelude.{IfOk};
-ghost use Rattle.nmgc_cycle.specs.Programs.{GaveSome, HasNoCommands, IsRunOfPrograms, MayRun};
+ghost use Rattle.std.specs.Prelude.{false, IfOk, OnErr};
+ghost use Rattle.nmgc_cycle.specs.{Programs.GaveSome, Programs.HasNoCommands, Programs.HasRunPrograms, Programs.IsRunOfPrograms, Programs.MayRun, Observed.ObservedPrograms, Observed.ObservedRun};
 
-use crate::{Collector, StopEnd};
+use crate::collector::observe_stop;
+use crate::observer::{Event, KeptRows, Observer, RunFault};
+use crate::{Collector, StopEnd, StopRows};
 use nmgc_journal::{End, Report};
 use nmgc_lists::{List, NoMemory};
 use nmgc_mutator::Program;
@@ -77,15 +79,44 @@ impl Collector {
     /// The programs stay the caller's. Even after `NoMemory` each is in the state in which it took its last reply, and gave at
     /// most its own bound of commands (clause `gave`). Requires a configuration within the limits of version 3, and one to
     /// `MAKERS` valid programs whose bounds sum up to at most 2^31.
-    pub fn run_programs<'b, R: Threads + Sync, P: Program, G: Gate>(
+    pub fn run_programs<R: Threads + Sync, P: Program, G: Gate>(
+        alloc: Global,
+        rt: &R,
+        config: &Config,
+        programs: &mut [P],
+        gate: &G,
+    ) -> Result<Report, NoMemory>
+        requires { MayRun P.words P.most P.valid config.now programs.old }
+        ensures run { IfOk result (λ report. IsRunOfPrograms P.next P.steps P.words P.most P.valid config.now programs.old programs.new report) }
+        ensures gave { GaveSome P.next P.steps P.words P.most P.valid programs.old programs.new }
+    {
+        let mut kept = KeptRows::new(alloc);
+        let Ok(ran) = Collector::run_programs_observed(alloc, rt, config, programs, gate, &mut kept)
+        else {
+            return Err(NoMemory);
+        };
+        let (collector, end) = ran;
+        Ok(collector.into_report(kept, end))
+    }
+
+    /// Does a whole run of programs as `run_programs` does, and gives `observer` each event as it comes, as `run_observed`
+    /// does. Returns the collector and the run's end. The observer was given exactly the events of the run, in order. No row
+    /// and no command is kept here, so a long run takes memory for the heap and for one round.
+    ///
+    /// If the observer fails or memory is refused, the run is given up. Then the observer was given the events of a lawful run
+    /// so far. If it failed itself, it did at the last of them (clause `err`). The programs are as after `run_programs`.
+    pub fn run_programs_observed<'b, R: Threads + Sync, P: Program, G: Gate, J: Observer>(
         alloc: Global,
         rt: &R,
         config: &Config,
         programs: &'b mut [P],
         gate: &G,
-    ) -> Result<Report, NoMemory>
+        observer: &mut J,
+    ) -> Result<(Collector, End), RunFault>
         requires { MayRun P.words P.most P.valid config.now programs.old }
-        ensures run { IfOk result (λ report. IsRunOfPrograms P.next P.steps P.words P.most P.valid config.now programs.old programs.new report) }
+        ensures ok { IfOk result (λ ran. HasRunPrograms P.next P.steps P.words P.most P.valid config.now programs.old programs.new ran.0 ran.1 ×
+            ObservedRun J.steps observer.old ran.0 false observer.new) }
+        ensures err { OnErr result (ObservedPrograms J.steps J.fails P.next P.steps P.words P.most P.valid config.now programs.old programs.new observer.old observer.new) }
         ensures gave { GaveSome P.next P.steps P.words P.most P.valid programs.old programs.new }
     {
         let began: Witness<&'b [P]> = Witness::of::<&[P], AtBeginning<P>>(&&*programs);
@@ -95,11 +126,17 @@ impl Collector {
             let script = Witness::of::<(&Witness<&'b [P]>, &Config, &Collector, &[P]), SoFar<P>>(&(
                 &began, config, &collector, &*programs,
             ));
-            match collector.stop_programs(rt, config, &script, programs)? {
-                StopEnd::GoOn => collector.round_programs(rt, config, &script, programs, gate)?,
-                StopEnd::Done => return Ok(collector.into_report(End::Done)),
+            let mut handed = StopRows::new(alloc);
+            let answer = collector.stop_programs(rt, config, &script, programs, &mut handed)?;
+            observe_stop(observer, handed)?;
+            match answer {
+                StopEnd::GoOn => {
+                    let rows = collector.round_programs(rt, config, &script, programs, gate)?;
+                    observer.observe(Event::Round(rows))?;
+                }
+                StopEnd::Done => return Ok((collector, End::Done)),
                 StopEnd::HeapFull { free, reserve } => {
-                    return Ok(collector.into_report(End::HeapFull { free, reserve }));
+                    return Ok((collector, End::HeapFull { free, reserve }));
                 }
             }
         }

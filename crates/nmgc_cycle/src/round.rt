@@ -129,8 +129,8 @@ fn listed<'a>(
 impl Collector {
     /// Does one round: each mutator with commands left does a slice, in a thread of its own, and passes `gate` before each
     /// command that it tries. Whatever the schedule was, all commands of the round have one legal order from the world of the
-    /// stop before the round. Words and mutators represent the world after this order. The round's replies follow the earlier
-    /// replies, and no stop's row changes.
+    /// stop before the round. Words and mutators represent the world after this order. The round's replies are returned. They
+    /// follow the earlier replies, and no row of a stop or a cycle changes.
     ///
     /// Beside the mutators the collector passes `gate` before each object that it scans and each segment that it sweeps.
     /// While a cycle marks, it scans `quota` objects, or all if there are fewer. The marker then has the marks and queue of
@@ -149,12 +149,13 @@ impl Collector {
         rt: &R,
         script: &Script,
         gate: &G,
-    ) -> Result<(), NoMemory>
+    ) -> Result<RoundRows, NoMemory>
         requires limits { FitsRun script.now }
         requires stopped { HasStopped script.now self.old × (self.old.answered ≡ None) }
         ensures worked { OnOk result (DidRound script.now self.old self.new) }
-        ensures reported { OnOk result ((rows : RoundRows) × (self.new.rows.rounds ≡ self.old.rows.rounds ++ rows ∷ [])) }
+        ensures reported { IfOk result (λ rows. self.new.rows.rounds ≡ self.old.rows.rounds ++ rows ∷ []) }
         ensures stops { OnOk result (self.new.rows.stops ≡ self.old.rows.stops) }
+        ensures cycles { OnOk result (self.new.rows.cycles ≡ self.old.rows.cycles) }
         ensures mutator_turns { OnOk result (HaveTried script.now self.old self.new) }
         ensures turns { OnOk result (turns_of self.new ≡ passed (turns_of self.old) (worked_on self.old.cycle.progress self.new.cycle.progress)) }
         ensures upper_turns { OnOk result (upper_turns_of self.new ≡
@@ -188,7 +189,7 @@ impl Collector {
         script: &Witness<Script>,
         programs: &mut [P],
         gate: &G,
-    ) -> Result<(), NoMemory>
+    ) -> Result<RoundRows, NoMemory>
         requires limits { FitsRun script.now.value }
         requires config { config.now ≡ script.now.value.config }
         requires stopped { HasStopped script.now.value self.old × (self.old.answered ≡ None) }
@@ -196,16 +197,17 @@ impl Collector {
         requires continues { CanContinue P.next P.steps P.words P.most P.valid script.now.value self.old.positions.items programs.old }
         ensures worked { OnOk result (DidAsk P.next P.steps P.words P.most P.valid script.now.value self.old self.new programs.old programs.new) }
         ensures gave { GaveSome P.next P.steps P.words P.most P.valid programs.old programs.new }
-        ensures reported { OnOk result ((rows : RoundRows) × (self.new.rows.rounds ≡ self.old.rows.rounds ++ rows ∷ [])) }
+        ensures reported { IfOk result (λ rows. self.new.rows.rounds ≡ self.old.rows.rounds ++ rows ∷ []) }
         ensures stops { OnOk result (self.new.rows.stops ≡ self.old.rows.stops) }
+        ensures cycles { OnOk result (self.new.rows.cycles ≡ self.old.rows.cycles) }
         ensures turns { OnOk result (turns_of self.new ≡ passed (turns_of self.old) (worked_on self.old.cycle.progress self.new.cycle.progress)) }
         ensures upper_turns { OnOk result (upper_turns_of self.new ≡
             passed (upper_turns_of self.old) (upper_worked_on self.old.cycle.progress self.new.cycle.progress)) }
         ensures remembered { OnOk result (RememberInOrder self.new.inbox self.new.mutators.items) }
     {
-        self.do_round(rt, config, script, programs, gate)?;
+        let rows = self.do_round(rt, config, script, programs, gate)?;
         self.meet_all();
-        Ok(())
+        Ok(rows)
     }
 
     // Looks into each ring once, now that a single thread has both ends. No entry moves. This shows the prover that the
@@ -226,7 +228,7 @@ impl Collector {
         script: &Witness<Script>,
         programs: &mut [P],
         gate: &G,
-    ) -> Result<(), NoMemory>
+    ) -> Result<RoundRows, NoMemory>
         requires limits { FitsRun script.now.value }
         requires config { config.now ≡ script.now.value.config }
         requires stopped { HasStopped script.now.value self.old × (self.old.answered ≡ None) }
@@ -234,8 +236,9 @@ impl Collector {
         requires continues { CanContinue P.next P.steps P.words P.most P.valid script.now.value self.old.positions.items programs.old }
         ensures worked { OnOk result (DidAsk P.next P.steps P.words P.most P.valid script.now.value self.old self.new programs.old programs.new) }
         ensures gave { GaveSome P.next P.steps P.words P.most P.valid programs.old programs.new }
-        ensures reported { OnOk result ((rows : RoundRows) × (self.new.rows.rounds ≡ self.old.rows.rounds ++ rows ∷ [])) }
+        ensures reported { IfOk result (λ rows. self.new.rows.rounds ≡ self.old.rows.rounds ++ rows ∷ []) }
         ensures stops { OnOk result (self.new.rows.stops ≡ self.old.rows.stops) }
+        ensures cycles { OnOk result (self.new.rows.cycles ≡ self.old.rows.cycles) }
         ensures turns { OnOk result (turns_of self.new ≡ passed (turns_of self.old) (worked_on self.old.cycle.progress self.new.cycle.progress)) }
         ensures upper_turns { OnOk result (upper_turns_of self.new ≡
             passed (upper_turns_of self.old) (upper_worked_on self.old.cycle.progress self.new.cycle.progress)) }
@@ -247,7 +250,8 @@ impl Collector {
         let opening = opening_of(script, self);
         self.do_slices(rt, config, script, programs, gate, &opening, lists);
         let rows = take_rows(self.alloc, self.mutators.as_mut_slice())?;
-        self.rows.rounds.push(rows)
+        self.rows.rounds.note(&rows);
+        Ok(rows)
     }
 
     // Makes room in each mutator for the replies and notes of its slice in the round.

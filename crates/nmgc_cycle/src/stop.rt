@@ -1,4 +1,4 @@
-//! A stop: objects are promoted, a cycle advances, and the stop's row is added to the report.
+//! A stop: objects are promoted, a cycle advances, and the stop's row is handed on.
 //!
 //! No mutator runs, so words are read and written plainly, and registers, queues and notes change in place. After each step
 //! the collector represents a state of the run at this stop (`specs/Steps.antt`), and together the steps are the run's stop.
@@ -17,7 +17,7 @@
 //!    the marker's work in the last round left nothing to scan, the cycle is closed (`close`), even if these entries added
 //!    objects, and sweeps from then on. A closing has four parts: the marker scans to the end, weak pointers are resolved,
 //!    finalisers of those that die are queued, and the marks of segments that aren't to be swept are carried over.
-//! 3. End (`try_end`). A cycle that sweeps ends if no segment waits, and its row is added.
+//! 3. End (`try_end`). A cycle that sweeps ends if no segment waits, and its row is handed on.
 //! 4. Full cycle (`do_full_cycle`, by `do_due_cycle`), if it is due (`is_full_due`): it was asked for, or commands are left
 //!    and fewer segments are free than the reserve. The cycle in progress is closed, swept and ended (`finish_cycle`).
 //!    Current and active segments are filed as filled (`retire_all`). A new cycle begins (`start`), and is closed, swept and
@@ -25,10 +25,10 @@
 //! 5. Begin (`try_begin`, by `do_due_cycle`). If step 4 wasn't done and a cycle is due (`is_due`), it begins (`start`).
 //! 6. Answer (`stop`). The row gets the numbers of the heap that this stop leaves. The answer is chosen: the run goes on, is
 //!    done, or has a full heap. An end is kept in `answered`.
-ghost use Rattle.std.specs.Prelude.{ℕ, ◌≡◌, ◌↔◌, ◌^◌, ◌<◌, [], ◌∷◌, ◌++◌, IfOk, OnOk, IsSome, IsTrue, Some, length, slice_get};
+ghost use Rattle.std.specs.Prelude.{ℕ, ◌≡◌, ◌↔◌, ◌^◌, ◌<◌, [], ◌∷◌, ◌++◌, IfOk, OnOk, IsSome, IsTrue, None, Some, length, slice_get};
 ghost use Rattle.nmgc_stop_spec.specs.Stopped.{Stopped};
 ghost use Rattle.nmgc_minor.specs.Promotion.{IsFor};
-ghost use Rattle.nmgc_cycle.specs.{Cycles.MarksOn, Shown.turns_of, Shown.upper_turns_of, Shown.mutator_turns_of, Keeps.CanStop, Keeps.HasAnswered, Keeps.StopsAfter, Stopping.StandsStopped, Stopping.CanList, Stopping.HasListed, Stopping.HasPromoted, Stopping.SomeIsLeft, Stopping.IsDone, Stopping.IsHeapFullAt, Stopping.ended_by, Keeps.NothingReachableIsFreed, Programs.FollowEach};
+ghost use Rattle.nmgc_cycle.specs.{Cycles.MarksOn, Shown.turns_of, Shown.upper_turns_of, Shown.mutator_turns_of, Keeps.CanStop, Keeps.HasAnswered, Keeps.StopsAfter, Stopping.StandsStopped, Stopping.CanList, Stopping.HasListed, Stopping.HasPromoted, Stopping.SomeIsLeft, Stopping.IsDone, Stopping.IsHeapFullAt, Stopping.ended_by, Keeps.NothingReachableIsFreed, Programs.FollowEach, Observed.HandsOn};
 ghost use Rattle.nmgc_run_laws.specs.Limits.{FitsRun};
 ghost use Rattle.nmgc_cycle.specs.declared.stop.StopEnd.TheVariants as answer;
 ghost use Rattle.nmgc_sweep.specs.NameTable.{HaveEntries};
@@ -40,12 +40,13 @@ use crate::round::known_before;
 use crate::stop_laws::a_stop_leads;
 use crate::worker::are_commands_left;
 use nmgc_collector_laws::marking::moved_join_the_list;
-use nmgc_journal::{End, Phase, StopRow};
-use nmgc_lists::NoMemory;
+use nmgc_journal::{CycleRow, End, Phase, StopRow};
+use nmgc_lists::{List, NoMemory};
 use nmgc_mutator::Program;
 use nmgc_round::Witness;
 use nmgc_script::{Config, Script};
 use nmgc_weak::laws::weaks_without_value_leave_the_list;
+use std::alloc::Global;
 use std::thread::Threads;
 
 /// The answer of a stop.
@@ -59,14 +60,35 @@ pub enum StopEnd {
     HeapFull { free: u32, reserve: u32 },
 }
 
+/// The rows that a stop hands on: its own row, once the stop was done, and the rows of the cycles that ended there. The names
+/// in a cycle's row are in the order in which they were listed.
+#[derive(Drop)]
+pub struct StopRows {
+    pub stop: Option<StopRow>,
+    pub cycles: List<CycleRow>,
+}
+
+impl StopRows {
+    /// Returns no rows. Takes no memory.
+    pub fn new(alloc: Global) -> StopRows
+        ensures { (result.stop ≡ None) × (result.cycles ≡ []) }
+    {
+        StopRows {
+            stop: None,
+            cycles: List::new(alloc),
+        }
+    }
+}
+
 impl Collector {
-    /// Does a stop, and returns its answer: promotes objects of the round, advances the cycle, and adds the stop's row.
+    /// Does a stop, and returns its answer: promotes objects of the round, advances the cycle, and hands rows on in `rows`.
     ///
     /// Exactly the objects named in step 1 of the note are promoted, and the nurseries are empty afterwards. Exactly the weak
     /// pointers finalised in the round leave the list, and those that moved and are alive join it. So the list has exactly
     /// the weak pointers that are alive and have a block. By the rules of a run, a cycle is closed, and a cycle ends with its
     /// census. A full cycle is done exactly if it is due; otherwise a cycle begins exactly if it is due. The stop's row has
-    /// the numbers of the heap that the stop leaves, and follows the rows before; rows of rounds stay. The run after the stop
+    /// the numbers of the heap that the stop leaves, and follows the rows before; rows of rounds stay. `rows` gets this row,
+    /// and at its end the rows of the cycles that ended, with their names as they were listed. The run after the stop
     /// is the run before the round, with this round and this stop, whatever the answer. Only weak pointers that die at a
     /// closing change the world. No command is answered. Afterwards
     /// each object that roots or living weak pointers reach has a block (clause `freed`).
@@ -82,7 +104,12 @@ impl Collector {
     /// queue, the sweeper's lists and finaliser queues. Takes time for promoted objects, roots, weak pointers that leave or
     /// join the list, recorded fields, remembered entries, and segments. A closing adds the objects left to scan, and the list of
     /// weak pointers with a logarithm. A full cycle adds all reachable objects and every block. After `NoMemory` nothing is known of the collector.
-    pub fn stop<R: Threads + Sync>(&mut self, rt: &R, script: &Script) -> Result<StopEnd, NoMemory>
+    pub fn stop<R: Threads + Sync>(
+        &mut self,
+        rt: &R,
+        script: &Script,
+        rows: &mut StopRows,
+    ) -> Result<StopEnd, NoMemory>
         requires limits { FitsRun script.now }
         requires can { CanStop script.now self.old }
         ensures answered { IfOk result (λ end. HasAnswered script.now self.new end) }
@@ -92,13 +119,14 @@ impl Collector {
         ensures marks_on { OnOk result (MarksOn self.old self.new) }
         ensures freed { OnOk result (NothingReachableIsFreed script.now self.new) }
         ensures rounds { OnOk result (self.new.rows.rounds ≡ self.old.rows.rounds) }
-        ensures stops { OnOk result ((row : StopRow) × (self.new.rows.stops ≡ self.old.rows.stops ++ row ∷ [])) }
+        ensures stops { OnOk result ((row : StopRow) × (self.new.rows.stops ≡ self.old.rows.stops ++ row ∷ []) × (rows.new.stop ≡ Some row)) }
+        ensures cycles { OnOk result (HandsOn self.old.rows.cycles self.new.rows.cycles rows.old.cycles rows.new.cycles) }
         ensures mutator_turns { OnOk result (mutator_turns_of self.new ≡ mutator_turns_of self.old) }
         ensures turns { OnOk result (turns_of self.new ≡ turns_of self.old) }
         ensures upper_turns { OnOk result (upper_turns_of self.new ≡ upper_turns_of self.old) }
     {
         let left = self.has_commands_left(script);
-        self.do_stop(rt, script.config.trigger, &known_before(script), left)
+        self.do_stop(rt, script.config.trigger, &known_before(script), left, rows)
     }
 
     /// Does a stop of a run of programs, as `stop` does for a script, and returns its answer. `script` is the script of the
@@ -110,6 +138,7 @@ impl Collector {
         config: &Config,
         script: &Witness<Script>,
         programs: &[P],
+        rows: &mut StopRows,
     ) -> Result<StopEnd, NoMemory>
         requires limits { FitsRun script.now.value }
         requires config { config.now ≡ script.now.value.config }
@@ -121,10 +150,11 @@ impl Collector {
         ensures freed { OnOk result (NothingReachableIsFreed script.now.value self.new) }
         ensures positions { OnOk result (self.new.positions.items ≡ self.old.positions.items) }
         ensures rounds { OnOk result (self.new.rows.rounds ≡ self.old.rows.rounds) }
-        ensures stops { OnOk result ((row : StopRow) × (self.new.rows.stops ≡ self.old.rows.stops ++ row ∷ [])) }
+        ensures stops { OnOk result ((row : StopRow) × (self.new.rows.stops ≡ self.old.rows.stops ++ row ∷ []) × (rows.new.stop ≡ Some row)) }
+        ensures cycles { OnOk result (HandsOn self.old.rows.cycles self.new.rows.cycles rows.old.cycles rows.new.cycles) }
     {
         let left = is_some_left(programs);
-        self.do_stop(rt, config.trigger, script, left)
+        self.do_stop(rt, config.trigger, script, left, rows)
     }
 
     // Does a stop of the run of this script, and returns its answer. `left` says whether any program has commands left.
@@ -134,6 +164,7 @@ impl Collector {
         trigger: u32,
         script: &Witness<Script>,
         left: bool,
+        rows: &mut StopRows,
     ) -> Result<StopEnd, NoMemory>
         requires limits { FitsRun script.now.value }
         requires trigger { trigger ≡ script.now.value.config.trigger }
@@ -148,18 +179,19 @@ impl Collector {
         ensures freed { OnOk result (NothingReachableIsFreed script.now.value self.new) }
         ensures positions { OnOk result (self.new.positions.items ≡ self.old.positions.items) }
         ensures rounds { OnOk result (self.new.rows.rounds ≡ self.old.rows.rounds) }
-        ensures stops { OnOk result ((row : StopRow) × (self.new.rows.stops ≡ self.old.rows.stops ++ row ∷ [])) }
+        ensures stops { OnOk result ((row : StopRow) × (self.new.rows.stops ≡ self.old.rows.stops ++ row ∷ []) × (rows.new.stop ≡ Some row)) }
+        ensures cycles { OnOk result (HandsOn self.old.rows.cycles self.new.rows.cycles rows.old.cycles rows.new.cycles) }
         ensures mutator_turns { OnOk result (mutator_turns_of self.new ≡ mutator_turns_of self.old) }
         ensures turns { OnOk result (turns_of self.new ≡ turns_of self.old) }
         ensures upper_turns { OnOk result (upper_turns_of self.new ≡ upper_turns_of self.old) }
     {
         a_stop_leads();
-        let number = self.rows.stops.items().len() as u32;
+        let number = self.rows.stops.count() as u32;
         let promoted = self.promote()?;
         self.add_remembered();
         self.try_close(number);
-        self.try_end(number)?;
-        self.do_due_cycle(rt, left, trigger, number)?;
+        self.try_end(number, &mut rows.cycles)?;
+        self.do_due_cycle(rt, left, trigger, number, &mut rows.cycles)?;
         let free = self.heap.segments.free_count();
         let row = StopRow {
             number,
@@ -169,7 +201,8 @@ impl Collector {
             sweep: self.heap.segments.sweep_count(),
             promoted,
         };
-        self.rows.stops.push(row)?;
+        self.rows.stops.note(&row);
+        rows.stop = Some(row);
         let reserve = self.heap.segments.layout().reserve();
         let end = if left && free < reserve {
             StopEnd::HeapFull { free, reserve }

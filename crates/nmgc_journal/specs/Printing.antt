@@ -1,7 +1,8 @@
 -- Parts of lines and counts of rows, as the functions that print them name them.
 use Rattle.std.specs.Prelude.{ℕ, List, [], ◌∷◌, ◌++◌, codes, decimal, length, sum_by, filter, ◌==◌}
+use Rattle.std.specs.List.{flat_map}
 use Rattle.nmgc_world_spec.specs.declared.command.Reply.{Reply}
-use Rattle.nmgc_journal.specs.{declared.report.RoundRows.RoundRows, declared.report.StopRow.StopRow, declared.report.CycleRow.CycleRow, declared.report.MutatorEnd.MutatorEnd, declared.report.Report.Report, Text.replies_text, Text.reply_text, Text.kept_count, Text.count_line}
+use Rattle.nmgc_journal.specs.{declared.report.RoundRows.RoundRows, declared.report.StopRow.StopRow, declared.report.CycleRow.CycleRow, declared.report.MutatorEnd.MutatorEnd, declared.report.Report.Report, Text.replies_text, Text.reply_text, Text.kept_count, Text.count_line, Text.stop_line, Text.cycle_text}
 
 -- the four counts that end a stop's line
 abbrev pub stop_counts : StopRow → List ℕ
@@ -19,6 +20,10 @@ heap_full_line free reserve = codes "end heapfull" ++ end_counts free reserve
 -- the cycles of the report that ended at this stop
 abbrev pub ended_at : ℕ → List CycleRow → List CycleRow
 ended_at n cycles = filter (λ (cycle : CycleRow). cycle.ended == n) cycles
+
+-- the lines of a stop and of these cycles, which ended at it
+abbrev pub stop_text : StopRow → List CycleRow → List ℕ
+stop_text row cycles = stop_line row ++ flat_map cycle_text cycles
 
 -- the lines of a round: its number, and its replies
 abbrev pub round_text : ℕ → RoundRows → List ℕ

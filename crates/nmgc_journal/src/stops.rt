@@ -6,7 +6,7 @@
 //! get wrong: a stop without a row has to take its cycles too. Otherwise the next stop begins at cycles that ended before.
 ghost use Rattle.std.specs.Prelude.{◌≡◌, ◌≢◌, ◌↔◌, ℕ, ◌+◌, ◌<◌, ◌≤◌, ◌++◌, ◌==◌, length, take, drop, IsTrue, OnOk, IfOk};
 ghost use Rattle.std.specs.List.{flat_map, take_while};
-ghost use Rattle.nmgc_journal.specs.{Text.phase_text, Text.stop_line, Printing.stop_counts, Printing.cycle_line, Printing.cycle_stops, Printing.cycle_swept, Printing.cycle_kept, Text.cycle_text, Text.name_line, Text.stop_at, Printing.ended_at};
+ghost use Rattle.nmgc_journal.specs.{Text.phase_text, Text.stop_line, Printing.stop_counts, Printing.stop_text, Printing.cycle_line, Printing.cycle_stops, Printing.cycle_swept, Printing.cycle_kept, Text.cycle_text, Text.name_line, Text.stop_at, Printing.ended_at};
 ghost use Rattle.nmgc_journal.specs.{Stops.AreEndedFrom, Stops.IsRestAfter, Spans.span_lines};
 
 use crate::tokens::{push_count, push_name, push_word};
@@ -113,6 +113,14 @@ fn push_stop_counts(out: &mut Vec<u8>, row: &StopRow) -> Result<(), NoMemory>
     push_count(out, b" sweep ", u64::from(row.sweep))?;
     push_count(out, b" promoted ", u64::from(row.promoted))?;
     push_word(out, b"\n")
+}
+
+/// Appends the line of a stop and the lines of `cycles`, which are those that ended at it, in order.
+pub fn push_stop(out: &mut Vec<u8>, row: &StopRow, cycles: &[CycleRow]) -> Result<(), NoMemory>
+    ensures { OnOk result (out.new.items ≡ out.old.items ++ stop_text row.now cycles.now) }
+{
+    push_stop_line(out, row)?;
+    push_cycles(out, cycles)
 }
 
 // Appends the lines of the cycles that ended at stop `number`.

@@ -132,8 +132,8 @@ fn push_end_counts(out: &mut Vec<u8>, free: u32, reserve: u32) -> Result<(), NoM
     push_word(out, b"\n")
 }
 
-// Appends the lines of a round: its number, and the replies of each mutator in order.
-fn push_round(out: &mut Vec<u8>, number: u64, rows: &RoundRows) -> Result<(), NoMemory>
+/// Appends the lines of a round: its number, and the replies of each mutator in order.
+pub fn push_round(out: &mut Vec<u8>, number: u64, rows: &RoundRows) -> Result<(), NoMemory>
     ensures { OnOk result (out.new.items ≡ out.old.items ++ round_text number rows.now) }
 {
     out.extend_from_slice(b"round ")?;

@@ -9,7 +9,7 @@ ghost use Rattle.nmgc_script.specs.Spelling.{IsInLimits};
 use crate::of_cycle::{Meet, reported, script_of};
 use crate::worked::{EXCHANGE, THREE_SEGMENTS, WAITING};
 use itoa::Buffer;
-use nmgc_cycle::{Collector, StopEnd};
+use nmgc_cycle::{Collector, StopEnd, StopRows};
 use nmgc_limits::MAKERS;
 use nmgc_lists::NoMemory;
 use nmgc_round::{Gate, OpenGate};
@@ -209,12 +209,12 @@ fn after_two_rounds<R: Threads + Sync, G: Gate>(
     ensures { IfOk result (λ found. IfSome found (λ collector. 1 ≤ length collector.inbox)) }
 {
     let mut collector = Collector::new(alloc, script)?;
-    match collector.stop(rt, script)? {
-        StopEnd::GoOn => collector.round(rt, script, gate)?,
+    match collector.stop(rt, script, &mut StopRows::new(alloc))? {
+        StopEnd::GoOn => drop(collector.round(rt, script, gate)?),
         StopEnd::Done | StopEnd::HeapFull { .. } => return Ok(None),
     }
-    match collector.stop(rt, script)? {
-        StopEnd::GoOn => collector.round(rt, script, gate)?,
+    match collector.stop(rt, script, &mut StopRows::new(alloc))? {
+        StopEnd::GoOn => drop(collector.round(rt, script, gate)?),
         StopEnd::Done | StopEnd::HeapFull { .. } => return Ok(None),
     }
     Ok(Some(collector))

@@ -15,6 +15,7 @@ mod bench;
 mod commands;
 mod config;
 mod fault;
+mod line;
 mod parsing;
 mod printing;
 pub mod script;
@@ -26,8 +27,8 @@ mod verbs;
 mod version;
 
 pub use bench::{MAX_BATCHES, generate};
-pub(crate) use fault::LineFault;
-pub use fault::{Cause, ScriptFault};
+pub use fault::{Cause, LineFault, ScriptFault};
+pub use line::command_of_line;
 pub use parsing::{a_text_spells_at_most_one_script, is_too_long, parse};
 pub use printing::print;
 pub use script::{Config, Script, upgrade};

@@ -1,6 +1,5 @@
 -- Each row of a run has the census of a cycle, so it has no name twice.
-use Rattle.nmgc_cycle.proofs.Vocabulary.{ℕ, ◌≡◌, ◌<◌, List, [], ◌∷◌, ◌++◌, length, map, take, drop, get_or, inl, inr, refl, sym, subst, arith, zero, suc, All, flat_map, All-nil, All-cons, All-head, All-tail, All-append, World, ordered_once, Cycle, CycleRow, StopRow, RoundRows, End, Run, Turn, IsRun, AreTurns, AreRowsOf, Plan, State, Progress, idle, marking, sweeping, plan_of, IsCensus, IsStop, EndsOrWaits, Finishes, Proceeds, Script, Collector, HasEnded, report_row, HasNamesOnce}
-use Rattle.nmgc_cycle.proofs.stops.Reported.{stopped_by}
+use Rattle.nmgc_cycle.proofs.Vocabulary.{ℕ, ◌≡◌, ◌<◌, List, [], ◌∷◌, ◌++◌, length, map, take, drop, get_or, inl, inr, refl, sym, subst, arith, zero, suc, All, flat_map, All-nil, All-cons, All-head, All-tail, All-append, World, ordered_once, Cycle, CycleRow, StopRow, RoundRows, Run, Turn, IsRun, AreTurns, AreRowsOf, Plan, State, Progress, idle, marking, sweeping, plan_of, IsCensus, IsStop, EndsOrWaits, Finishes, Proceeds, Script, Collector, HasStopped, report_row, HasNamesOnce}
 
 -- the row has the census of some cycle
 abbrev IsOfCycle : CycleRow → Type 0
@@ -53,10 +52,9 @@ rows_once (row ∷ rows) all =
     All-cons HasNamesOnce row rows (ordered_once row.had census.had.ordered, ordered_once row.freed census.freed.ordered)
     (rows_once rows (All-tail IsOfCycle (report_row row) (map report_row rows) all))
 
--- so for the rows of a collector whose run has ended
-pub names_once : (script : Script) (c : Collector) (end : End) → HasEnded script c end → All HasNamesOnce c.rows.cycles
-names_once script c end ended =
-    let stop = (stopped_by script c end ended).0 in
+-- so for the rows of a collector after a stop
+pub names_stopped : (script : Script) (c : Collector) → HasStopped script c → All HasNamesOnce c.rows.cycles
+names_stopped script c stop =
     let at = stop.1.at_stop in
     rows_once c.rows.cycles (run_of (plan_of script) stop.0 _ _ (map report_row c.rows.cycles) at.is_run at.agrees)
 

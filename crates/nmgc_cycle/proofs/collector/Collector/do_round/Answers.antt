@@ -1,4 +1,4 @@
-use Rattle.nmgc_cycle.proofs.{Vocabulary.◌≡◌, Vocabulary.◌++◌, Vocabulary.List, Vocabulary.[], Vocabulary.◌∷◌, Vocabulary.length, Vocabulary.map, Vocabulary.None, Vocabulary.ap, Vocabulary.sym, Vocabulary.subst, Vocabulary.◌∙◌, Vocabulary.with_items, Vocabulary.length-map, Vocabulary.RoundRows, Vocabulary.Mutator, Vocabulary.Collector, Vocabulary.passed, Vocabulary.worked_on, Vocabulary.upper_worked_on, Vocabulary.DidRound, Vocabulary.is_marking_in, Vocabulary.turns_of, Vocabulary.upper_turns_of, Vocabulary.MayBeAsked, Vocabulary.CanContinue, Vocabulary.HaveAskRoom, Vocabulary.DidAsk, Vocabulary.HasStopped, Vocabulary.MayBeLonger, Vocabulary.Continues, Vocabulary.longer_run, Vocabulary.longer_script, rounds.LongerRuns.still_longer, rounds.LongerRuns.kept_longer, rounds.LongerRuns.opens_longer, rounds.Continuing.gave_none, Vocabulary.ℕ, Vocabulary.◌+◌, Vocabulary.arith, Vocabulary.Done, Vocabulary.Reply, Vocabulary.slice_index, Vocabulary.slice_index_or, Vocabulary.slice_get_within, Vocabulary.get_or_from_slice_get, Vocabulary.item, Vocabulary.item_map, Vocabulary.cleared, Vocabulary.replies_of, lists.MutatorLists.vec_back, rounds.Reserved.reserved_stopped, rounds.Reserved.still_before, stops.Counted.round_counts, stops.Counted.round_counts_upper, rounds.InboxOn.inbox_before, rounds.InboxOn.inbox_stopped, rounds.RoundWorked.on_ok, rounds.RoundWorked.worked_after, stops.Tried.played_tried}
+use Rattle.nmgc_cycle.proofs.{Vocabulary.◌≡◌, Vocabulary.◌++◌, Vocabulary.List, Vocabulary.[], Vocabulary.◌∷◌, Vocabulary.length, Vocabulary.map, Vocabulary.None, Vocabulary.ap, Vocabulary.sym, Vocabulary.subst, Vocabulary.◌∙◌, Vocabulary.with_items, Vocabulary.length-map, Vocabulary.RoundRows, Vocabulary.Mutator, Vocabulary.Collector, Vocabulary.passed, Vocabulary.worked_on, Vocabulary.upper_worked_on, Vocabulary.DidRound, Vocabulary.is_marking_in, Vocabulary.turns_of, Vocabulary.upper_turns_of, Vocabulary.MayBeAsked, Vocabulary.CanContinue, Vocabulary.HaveAskRoom, Vocabulary.DidAsk, Vocabulary.HasStopped, Vocabulary.MayBeLonger, Vocabulary.Continues, Vocabulary.longer_run, Vocabulary.longer_script, rounds.LongerRuns.still_longer, rounds.LongerRuns.kept_longer, rounds.LongerRuns.opens_longer, rounds.Continuing.gave_none, Vocabulary.ℕ, Vocabulary.◌+◌, Vocabulary.arith, Vocabulary.Done, Vocabulary.Reply, Vocabulary.slice_index, Vocabulary.slice_index_or, Vocabulary.slice_get_within, Vocabulary.get_or_from_slice_get, Vocabulary.item, Vocabulary.item_map, Vocabulary.cleared, Vocabulary.replies_of, lists.MutatorLists.vec_back, rounds.Reserved.reserved_stopped, rounds.Reserved.still_before, stops.Counted.round_counts, stops.Counted.round_counts_upper, rounds.InboxOn.inbox_before, rounds.InboxOn.inbox_stopped, rounds.RoundWorked.worked_after, stops.Tried.played_tried}
 use Rattle.nmgc_cycle.proofs.collector.Collector.do_round.Goals as goal
 
 pub opening_of-opening-requires : goal.opening_of-opening-requires
@@ -62,9 +62,9 @@ returns-clause-worked g c =
     let asked = c.do_slices.ensures in
     let on = subst (λ (l : List ℕ). CanContinue g.P.Program.next g.P.Program.steps g.P.Program.words g.P.Program.most g.P.Program.valid first l c.args.programs.now) (sym places)
     c.requires.continues c.do_slices.new.programs asked.done asked.gave in
-    on_ok c.push.result c.push.ensures.ok (λ pushed. subst (λ (l : List RoundRows).
+    subst (λ (l : List RoundRows).
     DidAsk g.P.Program.next g.P.Program.steps g.P.Program.words g.P.Program.most g.P.Program.valid first own (record did { mutators = with_items did.mutators new; rows = record did.rows { rounds = l } })
-    c.args.programs.now c.do_slices.new.programs) (sym pushed) (record {
+    c.args.programs.now c.do_slices.new.programs) (sym c.note.ensures) (record {
       done = asked.done;
       gave = asked.gave;
       did = λ more longer on limits.
@@ -106,7 +106,7 @@ returns-clause-worked g c =
           ∙ get_or_from_slice_get (replies_of did.mutators.items) k n.0.replies.items [] shown
           ∙ asked.replies k m.0 n.0 d m.1 n.1 e
           ∙ ap (λ (l : List Reply). l ++ map (λ (x : Done). x.1) d) quiet;
-    }))
+    })
 
 pub returns-clause-reported : goal.returns-clause-reported
 returns-clause-reported g c =
@@ -115,11 +115,8 @@ returns-clause-reported g c =
     let on = subst (λ (x : Collector). CanContinue g.P.Program.next g.P.Program.steps g.P.Program.words g.P.Program.most g.P.Program.valid c.args.script.now.value x.positions.items c.args.programs.now) (sym same)
     c.requires.continues c.do_slices.new.programs asked.done asked.gave in
     let rest = (asked.did on.0 on.1 on.2 on.3).rest in
-    on_ok c.push.result c.push.ensures.ok (λ pushed. (
-      c.in_ok-rows.rows,
-      pushed ∙ ap (λ (l : List RoundRows). l ++ c.in_ok-rows.rows ∷ [])
-          (ap (λ (x : Collector). x.rows.rounds) rest ∙ ap (λ (x : Collector). x.rows.rounds) same),
-    ))
+    c.note.ensures ∙ ap (λ (l : List RoundRows). l ++ c.in_ok-rows.rows ∷ [])
+    (ap (λ (x : Collector). x.rows.rounds) rest ∙ ap (λ (x : Collector). x.rows.rounds) same)
 
 pub returns-clause-stops : goal.returns-clause-stops
 returns-clause-stops g c =
@@ -128,7 +125,16 @@ returns-clause-stops g c =
     let on = subst (λ (x : Collector). CanContinue g.P.Program.next g.P.Program.steps g.P.Program.words g.P.Program.most g.P.Program.valid c.args.script.now.value x.positions.items c.args.programs.now) (sym same)
     c.requires.continues c.do_slices.new.programs asked.done asked.gave in
     let rest = (asked.did on.0 on.1 on.2 on.3).rest in
-    on_ok c.push.result c.push.ensures.ok (λ pushed. ap (λ (x : Collector). x.rows.stops) rest ∙ ap (λ (x : Collector). x.rows.stops) same)
+    ap (λ (x : Collector). x.rows.stops) rest ∙ ap (λ (x : Collector). x.rows.stops) same
+
+pub returns-clause-cycles : goal.returns-clause-cycles
+returns-clause-cycles g c =
+    let asked = c.do_slices.ensures in
+    let same = c.in_ok-make_inbox_room.ensures.rest ∙ ap (λ (x : Collector). record x { inbox = c.make_inbox_room.new.self.inbox }) c.in_ok-make_room.ensures.rest in
+    let on = subst (λ (x : Collector). CanContinue g.P.Program.next g.P.Program.steps g.P.Program.words g.P.Program.most g.P.Program.valid c.args.script.now.value x.positions.items c.args.programs.now) (sym same)
+    c.requires.continues c.do_slices.new.programs asked.done asked.gave in
+    let rest = (asked.did on.0 on.1 on.2 on.3).rest in
+    ap (λ (x : Collector). x.rows.cycles) rest ∙ ap (λ (x : Collector). x.rows.cycles) same
 
 pub returns-clause-gave : goal.returns-clause-gave
 returns-clause-gave g c = (c.do_slices.ensures.done, c.do_slices.ensures.gave)
@@ -142,8 +148,8 @@ returns-clause-turns g c =
     let on = subst (λ (x : Collector). CanContinue g.P.Program.next g.P.Program.steps g.P.Program.words g.P.Program.most g.P.Program.valid c.args.script.now.value x.positions.items c.args.programs.now) (sym same)
     c.requires.continues c.do_slices.new.programs asked.done asked.gave in
     let counts = round_counts (longer_script on.0 c.args.script.now.value) c.opening_of-opening.result.value roomy did (asked.did on.0 on.1 on.2 on.3) in
-    on_ok c.push.result c.push.ensures.ok (λ pushed. subst (λ (x : Collector). turns_of did ≡
-    passed (turns_of x) (worked_on x.cycle.progress did.cycle.progress)) same counts)
+    subst (λ (x : Collector). turns_of did ≡
+    passed (turns_of x) (worked_on x.cycle.progress did.cycle.progress)) same counts
 
 pub returns-clause-upper_turns : goal.returns-clause-upper_turns
 returns-clause-upper_turns g c =
@@ -154,8 +160,8 @@ returns-clause-upper_turns g c =
     let on = subst (λ (x : Collector). CanContinue g.P.Program.next g.P.Program.steps g.P.Program.words g.P.Program.most g.P.Program.valid c.args.script.now.value x.positions.items c.args.programs.now) (sym same)
     c.requires.continues c.do_slices.new.programs asked.done asked.gave in
     let counts = round_counts_upper (longer_script on.0 c.args.script.now.value) c.opening_of-opening.result.value roomy did (asked.did on.0 on.1 on.2 on.3) in
-    on_ok c.push.result c.push.ensures.ok (λ pushed. subst (λ (x : Collector). upper_turns_of did ≡
-    passed (upper_turns_of x) (upper_worked_on x.cycle.progress did.cycle.progress)) same counts)
+    subst (λ (x : Collector). upper_turns_of did ≡
+    passed (upper_turns_of x) (upper_worked_on x.cycle.progress did.cycle.progress)) same counts
 
 pub returns-in_err-make_room-clause-gave : goal.returns-in_err-make_room-clause-gave
 returns-in_err-make_room-clause-gave g c =

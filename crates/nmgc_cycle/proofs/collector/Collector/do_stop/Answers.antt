@@ -1,4 +1,4 @@
-use Rattle.nmgc_cycle.proofs.{Vocabulary.◌≡◌, Vocabulary.List, Vocabulary.length, Vocabulary.arith, Vocabulary.refl, Vocabulary.sym, Vocabulary.ap, Vocabulary.subst, Vocabulary.◌∙◌, Vocabulary.inl, Vocabulary.inr, Vocabulary.true, Vocabulary.false, Vocabulary.same_true, Vocabulary.same_false, Vocabulary.reserve_count, Vocabulary.the_type, Vocabulary.Idle, Vocabulary.StopRow, Vocabulary.RoundRows, Vocabulary.StopEnd, Vocabulary.seen, stops.AddingLeads.can_add, stops.Begins.begins, stops.Counted.stop_counts, stops.Counted.stop_counts_upper, lengths.Few.stop_fits, rounds.InboxOn.lines_of, stops.MarksOn.marks_on, starts.NewStops.stopped_in, lists.Plans.is_runnable, lists.Plans.sound_state, Vocabulary.ℕ, Vocabulary.◌↔◌, Vocabulary.IsTrue, Vocabulary.SomeIsLeft, Vocabulary.ProceedsThen, stops.StopEnds.IsStepped, stops.StopEnds.IsRead, stops.StopEnds.Why, stops.StopEnds.row, stops.StopEnds.some_left_then, stops.StopEnds.rounds_are, stops.StopEnds.stops_are, stops.StopEnds.has_answered, stops.StopEnds.stops_after, stops.StopEnds.done_where, stops.StopEnds.full_where, stops.Tried.stop_turns, collector.Collector.do_stop.Given.Over, collector.Collector.do_stop.Goals.then-left+then-free-reserve, collector.Collector.do_stop.Goals.else-left+then-not-left+then-eq, collector.Collector.do_stop.Goals.else-left-via-then-left+else-free-reserve, collector.Collector.do_stop.Goals.else-left-via-else-left, collector.Collector.do_stop.Goals.else-left+else-not-left, collector.Collector.do_stop.Goals.else-not-left-via-then-not-left+else-eq, collector.Collector.do_stop.Goals.else-not-left-via-else-not-left}
+use Rattle.nmgc_cycle.proofs.{Vocabulary.◌≡◌, Vocabulary.List, Vocabulary.length, Vocabulary.arith, Vocabulary.refl, Vocabulary.sym, Vocabulary.ap, Vocabulary.subst, Vocabulary.◌∙◌, Vocabulary.inl, Vocabulary.inr, Vocabulary.true, Vocabulary.false, Vocabulary.same_true, Vocabulary.same_false, Vocabulary.reserve_count, Vocabulary.the_type, Vocabulary.Idle, Vocabulary.StopRow, Vocabulary.RoundRows, Vocabulary.StopEnd, Vocabulary.Collector, Vocabulary.seen, stops.AddingLeads.can_add, stops.Begins.begins, stops.Counted.stop_counts, stops.Counted.stop_counts_upper, stops.Handing.count_is, stops.Handing.handed_after, stops.Handing.handed_twice, lengths.Few.stop_fits, rounds.InboxOn.lines_of, stops.MarksOn.marks_on, starts.NewStops.stopped_in, lists.Plans.is_runnable, lists.Plans.sound_state, Vocabulary.ℕ, Vocabulary.◌↔◌, Vocabulary.IsTrue, Vocabulary.SomeIsLeft, Vocabulary.ProceedsThen, stops.StopEnds.IsStepped, stops.StopEnds.IsRead, stops.StopEnds.Why, stops.StopEnds.row, stops.StopEnds.some_left_then, stops.StopEnds.rounds_are, stops.StopEnds.stops_are, stops.StopEnds.has_answered, stops.StopEnds.stops_after, stops.StopEnds.done_where, stops.StopEnds.full_where, stops.Tried.stop_turns, collector.Collector.do_stop.Given.Over, collector.Collector.do_stop.Goals.then-left+then-free-reserve, collector.Collector.do_stop.Goals.else-left+then-not-left+then-eq, collector.Collector.do_stop.Goals.else-left-via-then-left+else-free-reserve, collector.Collector.do_stop.Goals.else-left-via-else-left, collector.Collector.do_stop.Goals.else-left+else-not-left, collector.Collector.do_stop.Goals.else-not-left-via-then-not-left+else-eq, collector.Collector.do_stop.Goals.else-not-left-via-else-not-left}
 use Rattle.nmgc_cycle.specs.declared.stop.StopEnd.TheVariants as answer
 use Rattle.nmgc_cycle.proofs.stops.AfterPromotion as after
 use Rattle.nmgc_cycle.proofs.stops.StopSteps as steps
@@ -10,7 +10,7 @@ true_isnt e = cc
 pub overflow_cast-number : goal.overflow_cast-number
 overflow_cast-number g c =
     let few = (stop_fits c.args.script.now.value c.args.self.now c.requires.limits c.requires.can).number in
-    let same = ap (λ (rows : List StopRow). length rows) c.items.ensures in
+    let same = c.count-number.ensures in
     omega (arith, few, same)
 
 pub promote-requires-clause-entries : goal.promote-requires-clause-entries
@@ -42,16 +42,14 @@ pub do_due_cycle-requires-clause-stands : goal.do_due_cycle-requires-clause-stan
 do_due_cycle-requires-clause-stands g c κs within =
     steps.at_this_stop c.a_stop_leads.ensures c.args.script.now.value c.args.self.now c.promote.new.self c.requires.limits c.requires.can
     c.in_ok-promoted.ensures.promoted c.in_ok-promoted.ensures.listed c.add_remembered.new.self c.add_remembered.ensures
-    (length c.items.result.now) (ap (λ (rows : List StopRow).
-    length rows) c.items.ensures) c.try_close.new.self c.try_close.ensures c.try_end.new.self c.in_ok-try_end.ensures
+    c.count-number.result (count_is (length c.args.self.now.rows.stops) c.count-number.result c.count-number.ensures (stop_fits c.args.script.now.value c.args.self.now c.requires.limits c.requires.can).number) c.try_close.new.self c.try_close.ensures c.try_end.new.self c.in_ok-try_end.ensures.ends
 
 pub do_due_cycle-requires-clause-number : goal.do_due_cycle-requires-clause-number
 do_due_cycle-requires-clause-number g c κs within =
     let few = (stop_fits c.args.script.now.value c.args.self.now c.requires.limits c.requires.can).begun in
     let same = steps.begun_is c.a_stop_leads.ensures c.args.script.now.value c.args.self.now c.promote.new.self c.requires.limits c.requires.can
     c.in_ok-promoted.ensures.promoted c.in_ok-promoted.ensures.listed c.add_remembered.new.self c.add_remembered.ensures
-    (length c.items.result.now) (ap (λ (rows : List StopRow).
-    length rows) c.items.ensures) c.try_close.new.self c.try_close.ensures c.try_end.new.self c.in_ok-try_end.ensures in
+    c.count-number.result (count_is (length c.args.self.now.rows.stops) c.count-number.result c.count-number.ensures (stop_fits c.args.script.now.value c.args.self.now c.requires.limits c.requires.can).number) c.try_close.new.self c.try_close.ensures c.try_end.new.self c.in_ok-try_end.ensures.ends in
     omega (arith, few, same)
 
 -- the steps of the stop, the values read at its end, and the reason for its answer
@@ -60,19 +58,19 @@ do_due_cycle-requires-clause-number g c κs within =
 left_at_end : (g : Over) (c : goal.After-self-1 g) → IsTrue c.args.left ↔ SomeIsLeft c.args.script.now.value.threads c.try_end.new.self.positions.items
 left_at_end g c = subst (λ (l : List ℕ). IsTrue c.args.left ↔ SomeIsLeft c.args.script.now.value.threads l)
     (sym (ap (λ (x : List RoundRows × List StopRow × List ℕ). x.2) (steps.ended_reported c.a_stop_leads.ensures c.args.script.now.value c.args.self.now c.promote.new.self c.requires.limits c.requires.can
-    c.in_ok-promoted.ensures.promoted c.in_ok-promoted.ensures.listed c.add_remembered.new.self c.add_remembered.ensures (length c.items.result.now)
-    (ap (λ (rows : List StopRow). length rows) c.items.ensures) c.try_close.new.self c.try_close.ensures c.try_end.new.self c.in_ok-try_end.ensures))) c.requires.left
+    c.in_ok-promoted.ensures.promoted c.in_ok-promoted.ensures.listed c.add_remembered.new.self c.add_remembered.ensures c.count-number.result
+    (count_is (length c.args.self.now.rows.stops) c.count-number.result c.count-number.ensures (stop_fits c.args.script.now.value c.args.self.now c.requires.limits c.requires.can).number) c.try_close.new.self c.try_close.ensures c.try_end.new.self c.in_ok-try_end.ensures.ends))) c.requires.left
 
 -- the cycle goes on by the script's own trigger
-proceeds_by : (g : Over) (c : goal.After-self-1 g) → ProceedsThen c.args.script.now.value.config.trigger c.args.left (length c.items.result.now)
+proceeds_by : (g : Over) (c : goal.After-self-1 g) → ProceedsThen c.args.script.now.value.config.trigger c.args.left c.count-number.result
     c.try_end.new.self c.do_due_cycle.new.self
-proceeds_by g c = subst (λ (n : ℕ). ProceedsThen n c.args.left (length c.items.result.now) c.try_end.new.self c.do_due_cycle.new.self) c.requires.trigger
-    c.in_ok-do_due_cycle.ensures
+proceeds_by g c = subst (λ (n : ℕ). ProceedsThen n c.args.left c.count-number.result c.try_end.new.self c.do_due_cycle.new.self) c.requires.trigger
+    c.in_ok-do_due_cycle.ensures.proceeds
 
 stepped : (g : Over) (c : goal.After-self-1 g) → IsStepped c.args.script.now.value c.args.self.now c.do_due_cycle.new.self
 stepped g c = record {
-  number = length c.items.result.now;
-  number_is = ap (λ (rows : List StopRow). length rows) c.items.ensures;
+  number = c.count-number.result;
+  number_is = count_is (length c.args.self.now.rows.stops) c.count-number.result c.count-number.ensures (stop_fits c.args.script.now.value c.args.self.now c.requires.limits c.requires.can).number;
   promoted = c.promote.new.self;
   promotes = c.in_ok-promoted.ensures.promoted;
   lists = c.in_ok-promoted.ensures.listed;
@@ -81,7 +79,7 @@ stepped g c = record {
   closed = c.try_close.new.self;
   closes = c.try_close.ensures;
   ended = c.try_end.new.self;
-  ends = c.in_ok-try_end.ensures;
+  ends = c.in_ok-try_end.ensures.ends;
   some = c.args.left;
   some_is = left_at_end g c;
   proceeds = proceeds_by g c;
@@ -90,7 +88,7 @@ stepped g c = record {
 read : (g : Over) (c : goal.After-self-1 g) → IsRead c.args.script.now.value c.do_due_cycle.new.self
 read g c = record {
   left = c.args.left;
-  left_is = some_left_then c.args.script.now.value c.try_end.new.self c.do_due_cycle.new.self c.args.script.now.value.config.trigger (length c.items.result.now)
+  left_is = some_left_then c.args.script.now.value c.try_end.new.self c.do_due_cycle.new.self c.args.script.now.value.config.trigger c.count-number.result
       c.args.left (proceeds_by g c) (left_at_end g c);
   phase = c.phase.result;
   phase_is = c.phase.ensures;
@@ -136,14 +134,14 @@ pub returns-clause-answered : goal.returns-clause-answered
 unfolding stepped read
 returns-clause-answered g c =
     has_answered c.a_stop_leads.ensures c.args.script.now.value c.args.self.now c.do_due_cycle.new.self c.requires.limits (stepped g c) (read g c)
-    c.in_ok-promoted.promoted c.in_ok-promoted.ensures.many c.push.new.self c.end_of_answer-self.result c.in_ok-push.ensures.ok c.requires.can c.if-left.end
+    c.in_ok-promoted.promoted c.in_ok-promoted.ensures.many c.note.new.self c.end_of_answer-self.result c.note.ensures c.requires.can c.if-left.end
     (why g c) c.end_of_answer-self.ensures
 
 pub returns-clause-after : goal.returns-clause-after
 unfolding stepped read
 returns-clause-after g c =
     stops_after c.a_stop_leads.ensures c.args.script.now.value c.args.self.now c.do_due_cycle.new.self c.requires.limits (stepped g c) (read g c)
-    c.in_ok-promoted.promoted c.in_ok-promoted.ensures.many c.push.new.self c.end_of_answer-self.result c.in_ok-push.ensures.ok c.if-left.end (why g c)
+    c.in_ok-promoted.promoted c.in_ok-promoted.ensures.many c.note.new.self c.end_of_answer-self.result c.note.ensures c.if-left.end (why g c)
     c.end_of_answer-self.ensures
 
 pub returns-clause-done : goal.returns-clause-done
@@ -166,7 +164,7 @@ pub returns-clause-rounds : goal.returns-clause-rounds
 unfolding stepped read
 returns-clause-rounds g c =
     rounds_are c.a_stop_leads.ensures c.args.script.now.value c.args.self.now c.do_due_cycle.new.self c.requires.limits (stepped g c) (read g c)
-    c.in_ok-promoted.promoted c.in_ok-promoted.ensures.many c.push.new.self c.end_of_answer-self.result c.in_ok-push.ensures.ok c.requires.can
+    c.in_ok-promoted.promoted c.in_ok-promoted.ensures.many c.note.new.self c.end_of_answer-self.result c.note.ensures c.requires.can
 
 pub returns-clause-stops : goal.returns-clause-stops
 unfolding stepped read
@@ -174,8 +172,16 @@ returns-clause-stops g c = (
   row c.a_stop_leads.ensures c.args.script.now.value c.args.self.now c.do_due_cycle.new.self c.requires.limits (stepped g c) (read g c)
       c.in_ok-promoted.promoted c.in_ok-promoted.ensures.many,
   stops_are c.a_stop_leads.ensures c.args.script.now.value c.args.self.now c.do_due_cycle.new.self c.requires.limits (stepped g c) (read g c)
-      c.in_ok-promoted.promoted c.in_ok-promoted.ensures.many c.push.new.self c.end_of_answer-self.result c.in_ok-push.ensures.ok c.requires.can,
+      c.in_ok-promoted.promoted c.in_ok-promoted.ensures.many c.note.new.self c.end_of_answer-self.result c.note.ensures c.requires.can,
+  refl,
 )
+
+pub returns-clause-cycles : goal.returns-clause-cycles
+returns-clause-cycles g c = handed_twice c.args.self.now.rows.cycles c.try_end.new.self.rows.cycles c.do_due_cycle.new.self.rows.cycles
+    c.args.rows.now.cycles c.try_end.new.rows c.do_due_cycle.new.rows
+    (handed_after c.args.self.now c.try_close.new.self c.try_end.new.self c.args.rows.now.cycles c.try_end.new.rows
+    (ap (λ (x : Collector). x.rows.cycles) c.try_close.ensures.rest ∙ ap (λ (x : Collector). x.rows.cycles) c.add_remembered.ensures.rest ∙
+    ap (λ (x : Collector). x.rows.cycles) c.in_ok-promoted.ensures.promoted.rest) c.in_ok-try_end.ensures.handed) c.in_ok-do_due_cycle.ensures.handed
 
 pub returns-clause-mutator_turns : goal.returns-clause-mutator_turns
 unfolding stepped
@@ -193,7 +199,7 @@ pub returns-clause-freed : goal.returns-clause-freed
 returns-clause-freed g c = λ run still. (sound_state c.args.script.now.value _ run c.requires.limits still).blocks
 
 pub returns-clause-positions : goal.returns-clause-positions
-returns-clause-positions g c = ap (λ (x : List RoundRows × List StopRow × List ℕ). x.2) (steps.proceeding_reported c.args.trigger c.args.left (length c.items.result.now) c.try_end.new.self
-    c.do_due_cycle.new.self c.in_ok-do_due_cycle.ensures ∙ steps.ended_reported c.a_stop_leads.ensures c.args.script.now.value c.args.self.now c.promote.new.self c.requires.limits c.requires.can
-    c.in_ok-promoted.ensures.promoted c.in_ok-promoted.ensures.listed c.add_remembered.new.self c.add_remembered.ensures (length c.items.result.now)
-    (ap (λ (rows : List StopRow). length rows) c.items.ensures) c.try_close.new.self c.try_close.ensures c.try_end.new.self c.in_ok-try_end.ensures)
+returns-clause-positions g c = ap (λ (x : List RoundRows × List StopRow × List ℕ). x.2) (steps.proceeding_reported c.args.trigger c.args.left c.count-number.result c.try_end.new.self
+    c.do_due_cycle.new.self c.in_ok-do_due_cycle.ensures.proceeds ∙ steps.ended_reported c.a_stop_leads.ensures c.args.script.now.value c.args.self.now c.promote.new.self c.requires.limits c.requires.can
+    c.in_ok-promoted.ensures.promoted c.in_ok-promoted.ensures.listed c.add_remembered.new.self c.add_remembered.ensures c.count-number.result
+    (count_is (length c.args.self.now.rows.stops) c.count-number.result c.count-number.ensures (stop_fits c.args.script.now.value c.args.self.now c.requires.limits c.requires.can).number) c.try_close.new.self c.try_close.ensures c.try_end.new.self c.in_ok-try_end.ensures.ends)

@@ -3,14 +3,14 @@ use Rattle.nmgc_cycle.proofs.collector.Collector.round_programs.Goals as goal
 
 pub meet_all-requires : goal.meet_all-requires
 meet_all-requires g c =
-    let asked = c.in_ok-do_round.ensures.worked in
+    let asked = c.in_ok-rows.ensures.worked in
     let on = c.requires.continues c.do_round.new.programs asked.done asked.gave in
     lines_of (longer_script on.0 c.args.script.now.value) c.do_round.new.self (is_runnable (longer_script on.0 c.args.script.now.value) on.3).few
     (asked.did on.0 on.1 on.2 on.3).0.0.kept
 
 pub returns-clause-worked : goal.returns-clause-worked
 returns-clause-worked g c =
-    let asked = c.in_ok-do_round.ensures.worked in
+    let asked = c.in_ok-rows.ensures.worked in
     record {
       done = asked.done;
       gave = asked.gave;
@@ -27,19 +27,22 @@ returns-clause-worked g c =
     }
 
 pub returns-clause-reported : goal.returns-clause-reported
-returns-clause-reported g c = let t = c.in_ok-do_round.ensures.reported in (t.0, ap (λ (x : Collector). x.rows.rounds) c.meet_all.ensures.rest ∙ t.1)
+returns-clause-reported g c = ap (λ (x : Collector). x.rows.rounds) c.meet_all.ensures.rest ∙ c.in_ok-rows.ensures.reported
 
 pub returns-clause-stops : goal.returns-clause-stops
-returns-clause-stops g c = ap (λ (x : Collector). x.rows.stops) c.meet_all.ensures.rest ∙ c.in_ok-do_round.ensures.stops
+returns-clause-stops g c = ap (λ (x : Collector). x.rows.stops) c.meet_all.ensures.rest ∙ c.in_ok-rows.ensures.stops
+
+pub returns-clause-cycles : goal.returns-clause-cycles
+returns-clause-cycles g c = ap (λ (x : Collector). x.rows.cycles) c.meet_all.ensures.rest ∙ c.in_ok-rows.ensures.cycles
 
 pub returns-clause-turns : goal.returns-clause-turns
 returns-clause-turns g c = subst (λ (x : Collector). turns_of x ≡
-    passed (turns_of c.args.self.now) (worked_on c.args.self.now.cycle.progress x.cycle.progress)) (sym c.meet_all.ensures.rest) c.in_ok-do_round.ensures.turns
+    passed (turns_of c.args.self.now) (worked_on c.args.self.now.cycle.progress x.cycle.progress)) (sym c.meet_all.ensures.rest) c.in_ok-rows.ensures.turns
 
 pub returns-clause-upper_turns : goal.returns-clause-upper_turns
 returns-clause-upper_turns g c = subst (λ (x : Collector). upper_turns_of x ≡
     passed (upper_turns_of c.args.self.now) (upper_worked_on c.args.self.now.cycle.progress x.cycle.progress)) (sym c.meet_all.ensures.rest)
-    c.in_ok-do_round.ensures.upper_turns
+    c.in_ok-rows.ensures.upper_turns
 
 pub returns-clause-remembered : goal.returns-clause-remembered
 returns-clause-remembered g c =

@@ -1,158 +1,23 @@
-use Rattle.nmgc_cycle.proofs.{Vocabulary.ℕ, Vocabulary.◌∙◌, Vocabulary.◌+◌, Vocabulary.◌≤◌, Vocabulary.◌∷◌, Vocabulary.List, Vocabulary.[], Vocabulary.length, Vocabulary.length-append, Vocabulary.slice_index, Vocabulary.refl, Vocabulary.sym, Vocabulary.ap, Vocabulary.subst, Vocabulary.arith, Vocabulary.Script, Vocabulary.StopRow, Vocabulary.RoundRows, Vocabulary.lawful_are_of_runs, Vocabulary.stop_is_lawful, Vocabulary.HasAnswered, Vocabulary.MayBeAsked, Vocabulary.FollowEach, Vocabulary.CanContinue, Vocabulary.IsScriptSoFar, Vocabulary.all_replies, Vocabulary.cycle_most, Vocabulary.most_stops, Vocabulary.IsRunOf, Vocabulary.FitsRun, Vocabulary.Report, lengths.Few.stop_fits, rounds.SoFar.may_continue, rounds.SoFar.may_follow, rounds.SoFar.threads_count, rounds.SoFar.both, rounds.SoFar.gave_both, rounds.Continuing.gave_none, rounds.RunSoFar.so_far_first, rounds.RunSoFar.so_far_next, rounds.RunSoFar.stops_bound, rounds.RunSoFar.empty_limits}
+use Rattle.nmgc_cycle.proofs.{Vocabulary.◌∙◌, Vocabulary.ap, Vocabulary.false, Vocabulary.Report, Vocabulary.all_replies, Vocabulary.lawful_are_of_runs, Vocabulary.script_of, Vocabulary.stop_is_lawful, stops.Observing.kept_rows}
 use Rattle.nmgc_cycle.proofs.collector.Collector.run_programs.Goals as goal
 
-pub of-began-requires : goal.of-began-requires
-of-began-requires g c = (record { ref_ptr = c.args.programs.ref_ptr; now = c.args.programs.now }, refl)
+pub into_report-requires-clause-ended : goal.into_report-requires-clause-ended
+into_report-requires-clause-ended g c =
+    let ran = c.in-Ok.ensures.ok.0 in
+    (script_of g.P.Program.next c.args.config.now ran.given c.run_programs_observed.new.programs, ran.ended)
 
-pub new-requires : goal.new-requires
-new-requires g c = empty_limits g.P.Program.words g.P.Program.most g.P.Program.valid c.args.config.now c.args.programs.now c.requires c.in_ok-empty.empty
-    c.in_ok-empty.ensures
+pub into_report-requires-clause-kept : goal.into_report-requires-clause-kept
+into_report-requires-clause-kept g c = kept_rows c.new-kept.result c.run_programs_observed.new.observer c.in-Ok.ran.0 false c.new-kept.ensures c.in-Ok.ensures.ok.1
 
-pub stops-init : goal.stops-init
-stops-init g c = so_far_first g.P.Program.next g.P.Program.steps g.P.Program.words g.P.Program.most g.P.Program.valid (g.met.P.Program g.world.𝓛 g.world.𝓜 g.world.𝓡 ((λ s x. x), (λ x. x), (λ x. x), λ x. x)).waits c.args.config.now c.args.programs.now c.requires c.in_ok-empty.empty
-    c.in_ok-collector.collector c.in_ok-empty.ensures c.in_ok-collector.ensures.fresh
-
-pub of-script-requires : goal.of-script-requires
-of-script-requires g c = (
-  c.stops.invariant.0,
-  subst (λ l. IsScriptSoFar g.P.Program.next g.P.Program.steps g.P.Program.words g.P.Program.most g.P.Program.valid c.args.config.now l c.stops.collector c.stops.programs c.stops.invariant.0) (sym c.of-began.ensures) c.stops.invariant.1,
-)
-
-pub stop_programs-requires-clause-limits : goal.stop_programs-requires-clause-limits
-stop_programs-requires-clause-limits g c κs within = c.of-script.ensures.limits
-
-pub stop_programs-requires-clause-config : goal.stop_programs-requires-clause-config
-stop_programs-requires-clause-config g c κs within = sym (ap (λ (s : Script). s.config) c.of-script.ensures.is)
-
-pub stop_programs-requires-clause-valid : goal.stop_programs-requires-clause-valid
-stop_programs-requires-clause-valid g c κs within = c.of-script.ensures.asked.valid_are
-
-pub stop_programs-requires-clause-follow : goal.stop_programs-requires-clause-follow
-stop_programs-requires-clause-follow g c κs within =
-    let h : IsScriptSoFar g.P.Program.next g.P.Program.steps g.P.Program.words g.P.Program.most g.P.Program.valid c.args.config.now c.args.programs.now c.stops.collector c.stops.programs c.of-script.result.value =
-    subst (λ l. IsScriptSoFar g.P.Program.next g.P.Program.steps g.P.Program.words g.P.Program.most g.P.Program.valid c.args.config.now l c.stops.collector c.stops.programs c.of-script.result.value) c.of-began.ensures
-    c.of-script.ensures in
-    subst (λ (s : Script). FollowEach g.P.Program.next s c.stops.collector.positions.items c.stops.programs) (sym h.is)
-    (may_follow g.P.Program.next g.P.Program.steps c.args.config.now h.given c.stops.programs (h.gave.count ∙ sym h.gave.programs)
-    c.stops.collector.positions.items h.positions)
-
-pub stop_programs-requires-clause-can : goal.stop_programs-requires-clause-can
-stop_programs-requires-clause-can g c κs within = c.of-script.ensures.can
-
-pub round_programs-requires-clause-limits : goal.round_programs-requires-clause-limits
-round_programs-requires-clause-limits g c κs within = c.of-script.ensures.limits
-
-pub round_programs-requires-clause-config : goal.round_programs-requires-clause-config
-round_programs-requires-clause-config g c κs within = sym (ap (λ (s : Script). s.config) c.of-script.ensures.is)
-
-pub round_programs-requires-clause-stopped : goal.round_programs-requires-clause-stopped
-round_programs-requires-clause-stopped g c κs within =
-    subst (HasAnswered c.of-script.result.value c.stop_programs.new.self) c.in-GoOn.is c.in_ok-stop_programs.ensures.answered
-
-pub round_programs-requires-clause-programs : goal.round_programs-requires-clause-programs
-round_programs-requires-clause-programs g c κs within = subst (λ (l : List ℕ).
-    MayBeAsked g.P.Program.words g.P.Program.most g.P.Program.valid c.of-script.result.value l c.stops.programs) (sym c.in_ok-stop_programs.ensures.positions)
-    c.of-script.ensures.asked
-
-pub round_programs-requires-clause-continues : goal.round_programs-requires-clause-continues
-round_programs-requires-clause-continues g c κs within =
-    let h : IsScriptSoFar g.P.Program.next g.P.Program.steps g.P.Program.words g.P.Program.most g.P.Program.valid c.args.config.now c.args.programs.now c.stops.collector c.stops.programs c.of-script.result.value =
-    subst (λ l. IsScriptSoFar g.P.Program.next g.P.Program.steps g.P.Program.words g.P.Program.most g.P.Program.valid c.args.config.now l c.stops.collector c.stops.programs c.of-script.result.value) c.of-began.ensures
-    c.of-script.ensures in
-    subst (λ (s : Script). CanContinue g.P.Program.next g.P.Program.steps g.P.Program.words g.P.Program.most g.P.Program.valid s c.stop_programs.new.self.positions.items c.stops.programs) (sym h.is)
-    (may_continue g.P.Program.next g.P.Program.steps g.P.Program.words g.P.Program.most g.P.Program.valid (g.met.P.Program g.world.𝓛 g.world.𝓜 g.world.𝓡 ((λ s x. x), (λ x. x), (λ x. x), λ x. x)).waits c.args.config.now c.args.programs.now c.requires h.given c.stops.programs h.gave
-    c.stop_programs.new.self.positions.items (λ k d e. ap (λ (l : List ℕ). slice_index l k) c.in_ok-stop_programs.ensures.positions ∙ h.positions k d e))
-
-pub stops-preserved : goal.stops-preserved
-stops-preserved g c =
-    let h : IsScriptSoFar g.P.Program.next g.P.Program.steps g.P.Program.words g.P.Program.most g.P.Program.valid c.args.config.now c.args.programs.now c.stops.collector c.stops.programs c.of-script.result.value =
-    subst (λ l. IsScriptSoFar g.P.Program.next g.P.Program.steps g.P.Program.words g.P.Program.most g.P.Program.valid c.args.config.now l c.stops.collector c.stops.programs c.of-script.result.value) c.of-began.ensures
-    c.of-script.ensures in
-    so_far_next g.P.Program.next g.P.Program.steps g.P.Program.words g.P.Program.most g.P.Program.valid (g.met.P.Program g.world.𝓛 g.world.𝓜 g.world.𝓡 ((λ s x. x), (λ x. x), (λ x. x), λ x. x)).waits c.args.config.now c.args.programs.now c.requires c.stops.collector c.stop_programs.new.self
-    c.round_programs.new.self c.stops.programs c.round_programs.new.programs c.of-script.result.value h c.in_ok-stop_programs.ensures.positions
-    c.in_ok-stop_programs.ensures.rounds c.in_ok-round_programs-in-GoOn.ensures.worked
-
-pub stops-smaller : goal.stops-smaller
-stops-smaller g c =
-    let before : List StopRow = c.stops.collector.rows.stops in
-    let h : IsScriptSoFar g.P.Program.next g.P.Program.steps g.P.Program.words g.P.Program.most g.P.Program.valid c.args.config.now c.args.programs.now c.stops.collector c.stops.programs c.of-script.result.value =
-    subst (λ l. IsScriptSoFar g.P.Program.next g.P.Program.steps g.P.Program.words g.P.Program.most g.P.Program.valid c.args.config.now l c.stops.collector c.stops.programs c.of-script.result.value) c.of-began.ensures
-    c.of-script.ensures in
-    let bound = stops_bound g.P.Program.next g.P.Program.steps g.P.Program.words g.P.Program.most g.P.Program.valid (g.met.P.Program g.world.𝓛 g.world.𝓜 g.world.𝓡 ((λ s x. x), (λ x. x), (λ x. x), λ x. x)).waits c.args.config.now c.args.programs.now c.requires h.given c.stops.programs h.gave in
-    let fits = stop_fits c.of-script.result.value c.stops.collector h.limits h.can in
-    let most = subst (λ (s : Script). length before + 1 ≤ most_stops s) h.is fits.within in
-    let same = ap (λ (n : ℕ). cycle_most (record {
-      segments = c.args.config.now.segments;
-      words = c.args.config.now.words;
-      nursery = c.args.config.now.nursery;
-      mutators = n;
-    })) (threads_count g.P.Program.next g.P.Program.steps h.given c.stops.programs (h.gave.count ∙ sym h.gave.programs) ∙ h.gave.programs) in
-    let reported = c.in_ok-stop_programs.ensures.stops in
-    let many = ap (λ (stops : List StopRow). length stops) reported.1 in
-    let added = length-append before (reported.0 ∷ []) in
-    let kept = ap (λ (stops : List StopRow). length stops) c.in_ok-round_programs-in-GoOn.ensures.stops in
-    omega (arith, bound, most, same, many, added, kept)
-
--- the run ends as its last stop answered
-
-pub into_report-requires : goal.into_report-requires
-into_report-requires g c =
-    (c.of-script.result.value, subst (HasAnswered c.of-script.result.value c.stop_programs.new.self) c.in-Done.is c.in_ok-stop_programs.ensures.answered)
-
-pub into_report-requires-in-HeapFull : goal.into_report-requires-in-HeapFull
-into_report-requires-in-HeapFull g c =
-    (c.of-script.result.value, subst (HasAnswered c.of-script.result.value c.stop_programs.new.self) c.in-HeapFull.is c.in_ok-stop_programs.ensures.answered)
-
-pub returns-in-Done-clause-run : goal.returns-in-Done-clause-run
-returns-in-Done-clause-run g c =
-    let h : IsScriptSoFar g.P.Program.next g.P.Program.steps g.P.Program.words g.P.Program.most g.P.Program.valid c.args.config.now c.args.programs.now c.stops.collector c.stops.programs c.of-script.result.value =
-    subst (λ l. IsScriptSoFar g.P.Program.next g.P.Program.steps g.P.Program.words g.P.Program.most g.P.Program.valid c.args.config.now l c.stops.collector c.stops.programs c.of-script.result.value) c.of-began.ensures
-    c.of-script.ensures in
-    let lawful = stop_is_lawful c.of-script.result.value c.into_report.result h.limits
-    (c.into_report.ensures.reported c.of-script.result.value
-    (subst (HasAnswered c.of-script.result.value c.stop_programs.new.self) c.in-Done.is c.in_ok-stop_programs.ensures.answered)) in
+pub returns-clause-run : goal.returns-clause-run
+returns-clause-run g c =
+    let ran = c.in-Ok.ensures.ok.0 in
+    let script = script_of g.P.Program.next c.args.config.now ran.given c.run_programs_observed.new.programs in
+    let lawful = stop_is_lawful script c.into_report.result ran.limits (c.into_report.ensures.reported script ran.ended) in
     record {
-      given = h.given;
-      gave = h.gave;
-      limits = subst FitsRun h.is h.limits;
-      run = subst (λ (s : Script). IsRunOf s c.into_report.result) h.is
-          (lawful_are_of_runs c.of-script.result.value c.into_report.result h.limits lawful).0;
-      replies = λ k d e. ap (λ (r : Report). all_replies r.rounds k) c.into_report.ensures.parts
-          ∙ ap (λ (r : List RoundRows). all_replies r k) c.in_ok-stop_programs.ensures.rounds ∙ h.replies k d e;
+      given = ran.given;
+      gave = ran.gave;
+      limits = ran.limits;
+      run = (lawful_are_of_runs script c.into_report.result ran.limits lawful).0;
+      replies = λ k d e. ap (λ (r : Report). all_replies r.rounds k) c.into_report.ensures.parts ∙ ran.replies k d e;
     }
-
-pub returns-in-HeapFull-clause-run : goal.returns-in-HeapFull-clause-run
-returns-in-HeapFull-clause-run g c =
-    let h : IsScriptSoFar g.P.Program.next g.P.Program.steps g.P.Program.words g.P.Program.most g.P.Program.valid c.args.config.now c.args.programs.now c.stops.collector c.stops.programs c.of-script.result.value =
-    subst (λ l. IsScriptSoFar g.P.Program.next g.P.Program.steps g.P.Program.words g.P.Program.most g.P.Program.valid c.args.config.now l c.stops.collector c.stops.programs c.of-script.result.value) c.of-began.ensures
-    c.of-script.ensures in
-    let lawful = stop_is_lawful c.of-script.result.value c.into_report-in-HeapFull.result h.limits
-    (c.into_report-in-HeapFull.ensures.reported c.of-script.result.value
-    (subst (HasAnswered c.of-script.result.value c.stop_programs.new.self) c.in-HeapFull.is c.in_ok-stop_programs.ensures.answered)) in
-    record {
-      given = h.given;
-      gave = h.gave;
-      limits = subst FitsRun h.is h.limits;
-      run = subst (λ (s : Script). IsRunOf s c.into_report-in-HeapFull.result) h.is
-          (lawful_are_of_runs c.of-script.result.value c.into_report-in-HeapFull.result h.limits lawful).0;
-      replies = λ k d e. ap (λ (r : Report). all_replies r.rounds k) c.into_report-in-HeapFull.ensures.parts
-          ∙ ap (λ (r : List RoundRows). all_replies r k) c.in_ok-stop_programs.ensures.rounds ∙ h.replies k d e;
-    }
-
--- without memory the programs are as they were at their last reply
-
-pub returns-in_err-empty-clause-gave : goal.returns-in_err-empty-clause-gave
-returns-in_err-empty-clause-gave g c = gave_none g.P.Program.next g.P.Program.steps g.P.Program.words g.P.Program.most g.P.Program.valid c.args.programs.now c.requires.valid_are
-
-pub returns-in_err-collector-clause-gave : goal.returns-in_err-collector-clause-gave
-returns-in_err-collector-clause-gave g c = gave_none g.P.Program.next g.P.Program.steps g.P.Program.words g.P.Program.most g.P.Program.valid c.args.programs.now c.requires.valid_are
-
-pub returns-in_err-round_programs-in-GoOn-clause-gave : goal.returns-in_err-round_programs-in-GoOn-clause-gave
-returns-in_err-round_programs-in-GoOn-clause-gave g c =
-    let h : IsScriptSoFar g.P.Program.next g.P.Program.steps g.P.Program.words g.P.Program.most g.P.Program.valid c.args.config.now c.args.programs.now c.stops.collector c.stops.programs c.of-script.result.value =
-    subst (λ l. IsScriptSoFar g.P.Program.next g.P.Program.steps g.P.Program.words g.P.Program.most g.P.Program.valid c.args.config.now l c.stops.collector c.stops.programs c.of-script.result.value) c.of-began.ensures
-    c.of-script.ensures in
-    let last = c.round_programs.ensures.gave in (
-      both g.P.Program.next g.P.Program.steps h.given last.0,
-      gave_both g.P.Program.next g.P.Program.steps g.P.Program.words g.P.Program.most g.P.Program.valid (g.met.P.Program g.world.𝓛 g.world.𝓜 g.world.𝓡 ((λ s x. x), (λ x. x), (λ x. x), λ x. x)).waits c.args.config.now c.args.programs.now c.requires h.given last.0 c.stops.programs c.round_programs.new.programs h.gave last.1,
-    )
