@@ -11,7 +11,7 @@ from .text import BELOW, SERIALS, is_number, is_reference
 REGISTER = re.compile("r(?:[0-9]|[1-5][0-9]|6[0-3])")
 # The operands of each command: D and V are registers, V may be g; N a number, T a tag, I an index, C a count; * is any number.
 FORMS = {
-    "num": "DN", "nil": "D", "mov": "DV", "con": "DT*", "var": "DV", "arr": "DCV", "thunk": "D*", "weak": "DVVV", "stack": "DC",
+    "num": "DN", "nil": "D", "mov": "DV", "con": "DT*", "var": "DV", "arr": "DCV", "rec": "D*", "thunk": "D*", "weak": "DVVV", "stack": "DC",
     "get": "DVI", "tag": "DV", "set": "VIV", "cas": "VIVV", "update": "VV", "force": "DV", "push": "VV", "pop": "DV", "deref": "DV",
     "finalise": "DV", "nextfin": "D", "show": "V", "same": "VV", "yield": "", "collect": "", "full": "",
 }
@@ -38,7 +38,7 @@ def command_of(line):
     operands = words[1:]
     if form.endswith("*"):
         form = form[:-1] + "V" * (len(operands) - len(form) + 1)
-        if len(operands) - 1 > (FREE if words[0] == "thunk" else FIELDS + 1):
+        if len(operands) - 1 > {"thunk": FREE, "rec": FIELDS}.get(words[0], FIELDS + 1):
             return None
     if len(form) != len(operands):
         return None
@@ -242,6 +242,7 @@ MAKES = {
     "con": lambda values: " ".join(["con"] + values),
     "var": lambda values: f"var {values[0]}",
     "arr": lambda values: " ".join(["arr"] + [values[1]] * int(values[0])),
+    "rec": lambda values: " ".join(["arr"] + values),
     "thunk": lambda values: " ".join(["thunk free"] + values),
     "weak": lambda values: " ".join(["weak"] + values),
     "stack": lambda values: f"stack {values[0]}",

@@ -84,6 +84,7 @@ own_fewer w m (command.Mov dest x) lt = of_state w m (holding (state_of w m) des
 own_fewer w m (command.Con dest tag fields) lt = born_fewer w m dest _ lt
 own_fewer w m (command.Var dest x) lt = born_fewer w m dest _ lt
 own_fewer w m (command.Arr dest count x) lt = born_fewer w m dest _ lt
+own_fewer w m (command.Rec dest fields) lt = born_fewer w m dest _ lt
 own_fewer w m (command.Thunk dest free) lt = born_fewer w m dest _ lt
 own_fewer w m (command.Weak dest key x finaliser) lt = born_fewer w m dest _ lt
 own_fewer w m (command.Stack dest size) lt = born_fewer w m dest _ lt

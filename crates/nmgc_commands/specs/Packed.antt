@@ -2,9 +2,9 @@
 use Rattle.nmgc_world_spec.specs.declared.command.Command.{Command}
 use Rattle.nmgc_world_spec.specs.declared.command.Command.TheVariants as plain
 use Rattle.nmgc_commands.specs.declared.packed.Form.{Form}
-use Rattle.nmgc_commands.specs.declared.packed.Form.TheVariants.{Num, Nil, Mov, Con, LongCon, Var, Arr, Thunk, LongThunk, Weak, Stack, Get, Tag, Set, Cas, Update, Force, Push, Pop, Deref, Finalise, NextFin, Show, Same, Yield, Collect, Full}
+use Rattle.nmgc_commands.specs.declared.packed.Form.TheVariants.{Num, Nil, Mov, Con, LongCon, Var, Arr, Rec, LongRec, Thunk, LongThunk, Weak, Stack, Get, Tag, Set, Cas, Update, Force, Push, Pop, Deref, Finalise, NextFin, Show, Same, Yield, Collect, Full}
 
--- the command that a form represents: the one of the same name and fields; `LongCon` is `Con`, and `LongThunk` is `Thunk`
+-- the command that a form represents: the one of the same name and fields; `LongCon` is `Con`, `LongRec` is `Rec`, and `LongThunk` is `Thunk`
 abbrev pub command_of : Form → Command
 command_of (Num dest number) = plain.Num dest number
 command_of (Nil dest) = plain.Nil dest
@@ -13,6 +13,8 @@ command_of (Con dest tag fields) = plain.Con dest tag fields
 command_of (LongCon dest tag fields) = plain.Con dest tag fields
 command_of (Var dest value) = plain.Var dest value
 command_of (Arr dest count value) = plain.Arr dest count value
+command_of (Rec dest fields) = plain.Rec dest fields
+command_of (LongRec dest fields) = plain.Rec dest fields
 command_of (Thunk dest free) = plain.Thunk dest free
 command_of (LongThunk dest free) = plain.Thunk dest free
 command_of (Weak dest key value finaliser) = plain.Weak dest key value finaliser

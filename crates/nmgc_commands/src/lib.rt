@@ -1,4 +1,5 @@
 //! Commands as they lie in a program: 16 bytes each. `operands` has the operands of one command, `packed` the command.
+//! `makers` has a function for each command, such as `PackedCommand::get(R2, R1, 0)`, by the types of `registers`.
 //!
 //! A script is the largest part of a run's memory, and its programs are read once, from front to back. So the number of bytes
 //! of a command matters. A `nmgc_world_spec::Command` takes twenty-four, since its list of operands takes sixteen. Here a few
@@ -7,8 +8,11 @@
 //! definitions, and for code with one command at a time: the reference heap, the marking machine, the checker.
 #![tactic(auto)]
 
+pub mod makers;
 pub mod operands;
 pub mod packed;
+pub mod registers;
 
 pub use operands::{FEW_OPERANDS, FixedOperands, ManyOperands, Operands};
 pub use packed::{Form, PackedCommand};
+pub use registers::{Number, Register};

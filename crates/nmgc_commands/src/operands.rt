@@ -5,9 +5,13 @@
 //! its tag. The pointer to a vector takes eight bytes, at an address that eight divides, and fits there too. Easy to get
 //! wrong: the memory in which operands lie is no part of their value. So a vector may have a few operands too, and contracts
 //! don't distinguish these from operands that lie in the command.
-ghost use Rattle.std.specs.Prelude.{◌≡◌, ◌<◌, [], ◌∷◌, ◌++◌, length, IsTrue, IsFalse, IfOk, OnOk, OnErr};
+ghost use Rattle.std.specs.Prelude.{◌≡◌, ◌<◌, ◌≤◌, [], ◌∷◌, ◌++◌, length, map, All, IsTrue, IsFalse, IfOk, OnOk, OnErr};
 ghost use Rattle.nmgc_commands.specs.Operands.{held_operands, HasRoom};
+ghost use Rattle.nmgc_world_spec.specs.World.{IsOperandBelow};
+ghost use Rattle.nmgc_world_spec.specs.declared.command.Operand.TheVariants as operand;
 
+use crate::registers::Register;
+use nmgc_limits::REGISTERS;
 use nmgc_lists::NoMemory;
 use nmgc_world_spec::Operand;
 use std::alloc::Global;
@@ -55,6 +59,22 @@ impl FixedOperands {
             count: 2,
             places: [first, second, none, none, none, none],
         }
+    }
+
+    // Makes a list of the values of registers, two of them without a loop. Requires at most `FEW_OPERANDS` of them.
+    pub(crate) fn of_registers(registers: &[Register]) -> Self
+        requires { length registers.now ≤ FEW_OPERANDS }
+        ensures values { result ≡ map operand.Register registers.now }
+        ensures exist { All (IsOperandBelow REGISTERS) result }
+    {
+        if let [first, second] = registers {
+            return FixedOperands::pair(first.operand(), second.operand());
+        }
+        let mut operands = FixedOperands::new();
+        for register in registers {
+            operands.push(register.operand());
+        }
+        operands
     }
 
     // Whether there is no room for one more operand.

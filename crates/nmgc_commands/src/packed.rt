@@ -1,10 +1,10 @@
 //! A command in 16 bytes.
 //!
-//! A `Form` is the command as it lies in memory: the cases of `nmgc_world_spec::Command`. The two cases with a list of
+//! A `Form` is the command as it lies in memory: the cases of `nmgc_world_spec::Command`. The three cases with a list of
 //! operands occur twice, once for a few operands and once for more. Code that has to distinguish commands matches on the
 //! form. For contracts a `PackedCommand` is the command itself (`specs/Packed.antt`).
 ghost use Rattle.std.specs.Prelude.{◌≡◌, ◌<◌, IfOk};
-ghost use Rattle.nmgc_world_spec.specs.{declared.command.Command.TheVariants.Con, declared.command.Command.TheVariants.Thunk, Known.IsMaking, World.words_made};
+ghost use Rattle.nmgc_world_spec.specs.{declared.command.Command.TheVariants.Con, declared.command.Command.TheVariants.Rec, declared.command.Command.TheVariants.Thunk, Known.IsMaking, World.words_made};
 ghost use Rattle.nmgc_commands.specs.Packed.{command_of};
 
 use crate::operands::{FixedOperands, Held, ManyOperands, Operands};
@@ -46,6 +46,16 @@ pub enum Form {
         dest: u8,
         count: u32,
         value: Operand,
+    },
+    /// An array with a few operands.
+    Rec {
+        dest: u8,
+        fields: FixedOperands,
+    },
+    /// An array whose operands lie in a vector.
+    LongRec {
+        dest: u8,
+        fields: ManyOperands,
     },
     /// A thunk with a few operands.
     Thunk {
@@ -149,6 +159,8 @@ impl Drop for Form {
                 count: _,
                 value: _,
             } => {}
+            Form::Rec { dest: _, fields } => drop(fields),
+            Form::LongRec { dest: _, fields } => drop(fields),
             Form::Thunk { dest: _, free } => drop(free),
             Form::LongThunk { dest: _, free } => drop(free),
             Form::Weak {
@@ -208,6 +220,8 @@ impl Form {
             Form::LongCon { fields, .. } => 2 + fields.items().len(),
             Form::Var { .. } => 3,
             Form::Arr { count, .. } => 2 + *count as usize,
+            Form::Rec { fields, .. } => 2 + fields.items().len(),
+            Form::LongRec { fields, .. } => 2 + fields.items().len(),
             Form::Thunk { free, .. } => 3 + free.items().len(),
             Form::LongThunk { free, .. } => 3 + free.items().len(),
             Form::Weak { .. } => 5,
@@ -315,6 +329,16 @@ fn con_form(dest: u8, tag: u8, fields: Operands) -> Form
     }
 }
 
+// Makes the form of an array: `Rec` if its operands lie in the command, and `LongRec` if they lie in a vector.
+fn rec_form(dest: u8, fields: Operands) -> Form
+    ensures { command_of result ≡ Rec dest fields }
+{
+    match fields.into_held() {
+        Held::Few(fields) => Form::Rec { dest, fields },
+        Held::Many(fields) => Form::LongRec { dest, fields },
+    }
+}
+
 // Makes the form of a thunk: `Thunk` if its operands lie in the command, and `LongThunk` if they lie in a vector.
 fn thunk_form(dest: u8, free: Operands) -> Form
     ensures { command_of result ≡ Thunk dest free }
@@ -333,6 +357,10 @@ fn packed_form(alloc: Global, command: &Command) -> Result<Form, NoMemory>
         Command::Con { dest, tag, fields } => {
             let fields = operands_of(alloc, fields.items())?;
             Ok(con_form(*dest, *tag, fields))
+        }
+        Command::Rec { dest, fields } => {
+            let fields = operands_of(alloc, fields.items())?;
+            Ok(rec_form(*dest, fields))
         }
         Command::Thunk { dest, free } => {
             let free = operands_of(alloc, free.items())?;
@@ -354,6 +382,14 @@ fn command_in(alloc: Global, form: &Form) -> Result<Command, NoMemory>
             let fields = list_of(alloc, fields.items())?;
             Ok(Command::Con { dest: *dest, tag: *tag, fields })
         }
+        Form::Rec { dest, fields } => {
+            let fields = list_of(alloc, fields.items())?;
+            Ok(Command::Rec { dest: *dest, fields })
+        }
+        Form::LongRec { dest, fields } => {
+            let fields = list_of(alloc, fields.items())?;
+            Ok(Command::Rec { dest: *dest, fields })
+        }
         Form::Thunk { dest, free } => {
             let free = list_of(alloc, free.items())?;
             Ok(Command::Thunk { dest: *dest, free })
@@ -366,9 +402,9 @@ fn command_in(alloc: Global, form: &Form) -> Result<Command, NoMemory>
 }
 
 impl PackedCommand {
-    /// Makes the command `Con`, which makes a constructor. Takes no memory.
+    /// Makes the command `Con` of operands, which makes a constructor. Takes no memory.
     #[inline]
-    pub fn con(dest: u8, tag: u8, fields: Operands) -> Self
+    pub fn con_of(dest: u8, tag: u8, fields: Operands) -> Self
         ensures { result ≡ Con dest tag fields }
     {
         PackedCommand {
@@ -376,9 +412,19 @@ impl PackedCommand {
         }
     }
 
-    /// Makes the command `Thunk`, which makes a thunk without a result. Takes no memory.
+    /// Makes the command `Rec` of operands, which makes an array of given values. Takes no memory.
     #[inline]
-    pub fn thunk(dest: u8, free: Operands) -> Self
+    pub fn rec_of(dest: u8, fields: Operands) -> Self
+        ensures { result ≡ Rec dest fields }
+    {
+        PackedCommand {
+            form: rec_form(dest, fields),
+        }
+    }
+
+    /// Makes the command `Thunk` of operands, which makes a thunk without a result. Takes no memory.
+    #[inline]
+    pub fn thunk_of(dest: u8, free: Operands) -> Self
         ensures { result ≡ Thunk dest free }
     {
         PackedCommand {
@@ -386,7 +432,8 @@ impl PackedCommand {
         }
     }
 
-    /// Returns a command in packed form. Takes memory only for a `Con` or `Thunk`, if the number of operands isn't two.
+    /// Returns a command in packed form. Takes memory only for a `Con`, `Rec` or `Thunk`, if the number
+    /// of operands isn't two.
     pub fn pack(alloc: Global, command: &Command) -> Result<Self, NoMemory>
         ensures { IfOk result (λ packed. packed ≡ command.now) }
     {
@@ -395,7 +442,7 @@ impl PackedCommand {
         })
     }
 
-    /// Returns the command, with its operands in a list. Takes memory only for the operands of a constructor or a thunk.
+    /// Returns the command, with its operands in a list. Takes memory only for the operands of a `Con`, `Rec` or `Thunk`.
     pub fn unpack(&self, alloc: Global) -> Result<Command, NoMemory>
         ensures { IfOk result (λ command. command ≡ self.now) }
     {

@@ -72,7 +72,7 @@ pub fn pair(dest: u8, tag: u8, first: u8, second: u8) -> PackedCommand
     ensures fits { FitsAny result }
     ensures is { dest < REGISTERS → first < REGISTERS → second < REGISTERS → result ≡ made.Con dest tag (Register first ∷ Register second ∷ []) }
 {
-    PackedCommand::con(
+    PackedCommand::con_of(
         register(dest),
         tag,
         Operands::pair(held(first), held(second)),

@@ -28,6 +28,7 @@ impl World {
             Command::Con { .. }
             | Command::Var { .. }
             | Command::Arr { .. }
+            | Command::Rec { .. }
             | Command::Thunk { .. }
             | Command::Weak { .. }
             | Command::Stack { .. } => Reply::Given(Value::Ref(self.next_name(mutator))),

@@ -108,6 +108,7 @@ impl World {
             }
             Command::Var { dest, value } => self.make_var(mutator, *dest, *value),
             Command::Arr { dest, count, value } => self.make_arr(mutator, *dest, *count, *value),
+            Command::Rec { dest, fields } => self.make_rec(mutator, *dest, fields.items()),
             Command::Thunk { dest, free } => self.make_thunk(mutator, *dest, free.items()),
             Command::Weak {
                 dest,
@@ -201,6 +202,19 @@ impl World {
     {
         let value = self.value(mutator, value);
         let values = copies(self.alloc, value, count as usize)?;
+        self.add(mutator, dest, Node::Arr { values })
+    }
+
+    // Makes an array of the operands' values, puts its reference into `dest`, and replies with its name.
+    fn make_rec(&mut self, mutator: u8, dest: u8, fields: &[Operand]) -> Result<Reply, NoMemory>
+        requires mutator { mutator < length self.old.mutators }
+        requires serial { serial_of self.old mutator < 2 ^ 32 - 1 }
+        requires dest { IsRegister dest }
+        requires fields { All IsOperand fields.now }
+        ensures born { IfOk result (λ reply. born self.old mutator dest (Node.Arr (values_for self.old mutator fields.now)) ≡ (self.new, reply)) }
+        ensures err { OnErr result (self.new ≡ self.old) }
+    {
+        let values = self.values(mutator, fields)?;
         self.add(mutator, dest, Node::Arr { values })
     }
 

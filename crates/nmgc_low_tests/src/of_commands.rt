@@ -41,11 +41,19 @@ fn is_thunk(command: &Command, items: &[Operand]) -> bool {
     }
 }
 
+// Whether a command makes an array of these values, in r2.
+fn is_rec(command: &Command, items: &[Operand]) -> bool {
+    match command {
+        Command::Rec { dest, fields } => *dest == 2 && fields.items() == items,
+        _ => false,
+    }
+}
+
 // Whether the operands of a command are in a vector.
 fn is_long(command: &PackedCommand) -> bool {
     matches!(
         command.form(),
-        Form::LongCon { .. } | Form::LongThunk { .. }
+        Form::LongCon { .. } | Form::LongRec { .. } | Form::LongThunk { .. }
     )
 }
 
@@ -55,11 +63,15 @@ fn operands_lie_in_a_command_or_behind_it(rt: HostRuntime) -> Result<(), Fail> {
     let all = ALL;
     for count in 0..9usize {
         let items = &all[..count];
-        let con = PackedCommand::con(1, 2, added(alloc, items)?);
+        let con = PackedCommand::con_of(1, 2, added(alloc, items)?);
         assert!(rt; con.words_made() == 2 + count);
         assert!(rt; is_long(&con) == (count > 6));
         assert!(rt; is_con(&con.unpack(alloc)?, items));
-        let thunk = PackedCommand::thunk(3, added(alloc, items)?);
+        let rec = PackedCommand::rec_of(2, added(alloc, items)?);
+        assert!(rt; rec.words_made() == 2 + count);
+        assert!(rt; is_long(&rec) == (count > 6));
+        assert!(rt; is_rec(&rec.unpack(alloc)?, items));
+        let thunk = PackedCommand::thunk_of(3, added(alloc, items)?);
         assert!(rt; thunk.words_made() == 3 + count);
         assert!(rt; is_long(&thunk) == (count > 6));
         assert!(rt; is_thunk(&thunk.unpack(alloc)?, items));
@@ -70,7 +82,7 @@ fn operands_lie_in_a_command_or_behind_it(rt: HostRuntime) -> Result<(), Fail> {
 #[test]
 fn a_command_is_packed_and_unpacked(rt: HostRuntime) -> Result<(), Fail> {
     let alloc = rt.alloc();
-    let con = PackedCommand::con(1, 2, Operands::pair(ALL[0], ALL[2]));
+    let con = PackedCommand::con_of(1, 2, Operands::pair(ALL[0], ALL[2]));
     let plain = con.unpack(alloc)?;
     assert!(rt; is_con(&plain, &[ALL[0], ALL[2]]));
     let again = PackedCommand::pack(alloc, &plain)?;

@@ -103,8 +103,12 @@ fn prints_what_it_reads_back(rt: HostRuntime) -> Result<(), Fail> {
 const SECOND: &str =
     "nmgc 2\nheap 32 64 64 100 1000 0\nthread 0\nnum r63 5\ncon r40 0 r63\nget r41 r40 0\n";
 
-// A script with a command that is new in version 3, after its first line's version.
-const TAGGED: &str = "\nheap 32 64 64 100 1000 0\nthread 0\ntag r1 r0\n";
+// Scripts with a command that is new in version 3, after their first lines' version.
+const NEWER: [&str; 3] = [
+    "\nheap 32 64 64 100 1000 0\nthread 0\ntag r1 r0\n",
+    "\nheap 32 64 64 100 1000 0\nthread 0\nrec r1\n",
+    "\nheap 32 64 64 100 1000 0\nthread 0\nrec r1 r0 g r2 r3 r4 r5 r6\n",
+];
 
 // Sections of no commands, after the line of a version and the heap line.
 fn sections(alloc: Global, version: u32, count: u32) -> Result<String, Fail> {
@@ -121,12 +125,14 @@ fn reads_the_later_versions(rt: HostRuntime) -> Result<(), Fail> {
     assert!(rt; same.as_slice() == SECOND.as_bytes());
     let large = joined(rt.alloc(), SECOND, "num r64 5\n")?;
     assert!(rt; reported(&rt, rt.alloc(), large.as_bytes()) == Some((7, Cause::Operand)));
-    let third = joined(rt.alloc(), "nmgc 3", TAGGED)?;
-    let tagged = reprinted(&rt, rt.alloc(), third.as_str())?;
-    assert!(rt; tagged.as_slice() == third.as_bytes());
-    for version in ["nmgc 1", "nmgc 2"] {
-        let early = joined(rt.alloc(), version, TAGGED)?;
-        assert!(rt; reported(&rt, rt.alloc(), early.as_bytes()) == Some((4, Cause::Command)));
+    for newer in NEWER {
+        let third = joined(rt.alloc(), "nmgc 3", newer)?;
+        let same = reprinted(&rt, rt.alloc(), third.as_str())?;
+        assert!(rt; same.as_slice() == third.as_bytes());
+        for version in ["nmgc 1", "nmgc 2"] {
+            let early = joined(rt.alloc(), version, newer)?;
+            assert!(rt; reported(&rt, rt.alloc(), early.as_bytes()) == Some((4, Cause::Command)));
+        }
     }
     for (version, most) in [(1u32, 8u32), (2, 32), (3, 32)] {
         let few = sections(rt.alloc(), version, most)?;

@@ -9,7 +9,7 @@ pub use Rattle.nmgc_round.specs.{Compare.exchanged, Gate.next_turn, Gate.passed,
 pub use Rattle.nmgc_round.specs.{declared.table.Round.Round, laws.Common.passed_more}
 pub use Rattle.nmgc_updrem.specs.Rings.{Sender}
 pub use Rattle.nmgc_world_spec.specs.{World.Fits, World.words_made, Known.HasRegisters, Known.IsMaking, Known.IsOperand, Known.given}
-pub use Rattle.nmgc_world_spec.specs.declared.{command.Command.Command, command.Command.TheVariants.Arr, command.Command.TheVariants.Cas, command.Command.TheVariants.Collect, command.Command.TheVariants.Con, command.Command.TheVariants.Deref, command.Command.TheVariants.Finalise, command.Command.TheVariants.Force, command.Command.TheVariants.Full, command.Command.TheVariants.Get, command.Command.TheVariants.Mov, command.Command.TheVariants.NextFin, command.Command.TheVariants.Nil, command.Command.TheVariants.Num, command.Command.TheVariants.Pop, command.Command.TheVariants.Push, command.Command.TheVariants.Same, command.Command.TheVariants.Set, command.Command.TheVariants.Show, command.Command.TheVariants.Stack, command.Command.TheVariants.Tag, command.Command.TheVariants.Thunk, command.Command.TheVariants.Update, command.Command.TheVariants.Var, command.Command.TheVariants.Weak, command.Command.TheVariants.Yield, command.Operand.Operand, command.Operand.TheVariants.Register, command.Operand.TheVariants.Shared, command.Reply.Reply, command.Reply.TheVariants.Fine, command.Reply.TheVariants.Fixed, command.Reply.TheVariants.Given, command.Reply.TheVariants.No, command.Reply.TheVariants.NoField, command.Reply.TheVariants.NoPointer, command.Reply.TheVariants.NotOwner, command.Reply.TheVariants.WrongKind, command.Reply.TheVariants.Yes, value.Name.Name, value.Value.Value, value.Value.TheVariants.Ref}
+pub use Rattle.nmgc_world_spec.specs.declared.{command.Command.Command, command.Command.TheVariants.Arr, command.Command.TheVariants.Cas, command.Command.TheVariants.Collect, command.Command.TheVariants.Con, command.Command.TheVariants.Deref, command.Command.TheVariants.Finalise, command.Command.TheVariants.Force, command.Command.TheVariants.Full, command.Command.TheVariants.Get, command.Command.TheVariants.Mov, command.Command.TheVariants.NextFin, command.Command.TheVariants.Nil, command.Command.TheVariants.Num, command.Command.TheVariants.Pop, command.Command.TheVariants.Push, command.Command.TheVariants.Rec, command.Command.TheVariants.Same, command.Command.TheVariants.Set, command.Command.TheVariants.Show, command.Command.TheVariants.Stack, command.Command.TheVariants.Tag, command.Command.TheVariants.Thunk, command.Command.TheVariants.Update, command.Command.TheVariants.Var, command.Command.TheVariants.Weak, command.Command.TheVariants.Yield, command.Operand.Operand, command.Operand.TheVariants.Register, command.Operand.TheVariants.Shared, command.Reply.Reply, command.Reply.TheVariants.Fine, command.Reply.TheVariants.Fixed, command.Reply.TheVariants.Given, command.Reply.TheVariants.No, command.Reply.TheVariants.NoField, command.Reply.TheVariants.NoPointer, command.Reply.TheVariants.NotOwner, command.Reply.TheVariants.WrongKind, command.Reply.TheVariants.Yes, value.Name.Name, value.Value.Value, value.Value.TheVariants.Ref}
 pub use Rattle.std.proofs.{Common.Bool, Common.Bor, Common.List, Common.None, Common.Option, Common.Some, Common.[], Common.ap, Common.append-nil, Common.arith, Common.cond, Common.drop, Common.eq-eqb, Common.eqb, Common.false, Common.get_or, Common.get_or-set_other, Common.get_or-set_same, Common.inl, Common.inr, Common.leb, Common.length, Common.length-set, Common.ltb, Common.map, Common.mul-le-mul_right, Common.ne_eqb, Common.refl, Common.rules, Common.set, Common.slice_index, Common.slice_set, Common.subst, Common.suc, Common.sym, Common.take, Common.true, Common.zero, Common.ℕ, Common.◌%◌, Common.◌&&◌, Common.◌*◌, Common.◌++◌, Common.◌+◌, Common.◌-◌, Common.◌/◌, Common.◌<◌, Common.◌^◌, Common.◌∙◌, Common.◌∷◌, Common.◌≡◌, Common.◌≢◌, Common.◌≤◌, Common.◌⊎◌, Math.Bool.and-false}
 pub use Rattle.std.proofs.lemmas.{Bool.cases_lt, Bool.le-leb, Bool.le-ltb, Bool.lt-leb, Bool.lt-ltb, Grind.common_steps, List.append_assoc, List.get_or_past, List.length-map, List.length-replicate, List.map-append, List.take-append-drop, List.take_more, List.Elements.All-append, List.Elements.All-cons, List.Elements.All-nil, Option.slice_get_within}
 pub use Rattle.std.specs.Prelude.{All, Contains, IfNone, IfSome, is_some, min, slice_get}

@@ -1,6 +1,6 @@
 -- The parts of the world that a command leaves unchanged.
 use Rattle.nmgc_round.proofs.Vocabulary.{◌≡◌, ◌≢◌, ℕ, ◌<◌, length, refl, ap, ◌∙◌, arith, length-set, Option, Some, None, inl, inr, cases_eq, eqb_tells, SHARED_MAKER, Name, Value, Node, MutatorState, Change, Command, Num, Nil, Mov, Get, Tag, Set, Cas, Update, Force, Push, Pop, Deref, Finalise, NextFin, Show, Same, Yield, Collect, Full, Reply, World, state_of, node_of, changed, value_for, with_state, with_nth, with_node, keeping, change_node, change_object, change_into, step, state_same, state_other, maker_there, change_count}
-use Rattle.nmgc_world_spec.specs.declared.command.Command.TheVariants.{Con, Var, Arr, Thunk, Weak, Stack}
+use Rattle.nmgc_world_spec.specs.declared.command.Command.TheVariants.{Con, Var, Arr, Rec, Thunk, Weak, Stack}
 use Rattle.nmgc_world_spec.specs.declared.value.Value.TheVariants as value
 use Rattle.nmgc_world_spec.specs.declared.change.Change.TheVariants as change
 use Rattle.nmgc_world_spec.specs.declared.command.Reply.TheVariants as reply
@@ -84,6 +84,7 @@ module _ (m k : ℕ) (ne : k ≢ m) where
   step_other w (Con dest tag fields) lt = set_other w _ lt
   step_other w (Var dest v) lt = set_other w _ lt
   step_other w (Arr dest count v) lt = set_other w _ lt
+  step_other w (Rec dest fields) lt = set_other w _ lt
   step_other w (Thunk dest free) lt = set_other w _ lt
   step_other w (Weak dest key v finaliser) lt = set_other w _ lt
   step_other w (Stack dest size) lt = set_other w _ lt

@@ -1,6 +1,6 @@
 -- A command that makes an object, in the world and in words.
 use Rattle.nmgc_round.proofs.Vocabulary.{◌≡◌, ◌≢◌, Bool, cond, eq-eqb, ne_eqb, ℕ, zero, suc, ◌+◌, ◌*◌, ◌/◌, ◌≤◌, List, [], ◌∷◌, map, replicate, set, refl, sym, ap, ◌∙◌, arith, slice_index, Some, None, slice_get, length-map, length-replicate, Value, Node, Operand, Command, Num, Nil, Mov, Get, Tag, Set, Cas, Update, Force, Push, Pop, Deref, Finalise, NextFin, Show, Same, Yield, Collect, Full, World, state_of, IsSized, IsMaking, words_made, shared_name, value_of, born, step, owed_by, IsHeader, most_segment_words, SHARED_PLACE, header_of, size_of, slots_of, Place, Means, HasSlots, AllMean, ListMeans, item_all, values_fill, slots_of_fields, slots_at, word, Hand, word_of, leaves, header_made, fields_made}
-use Rattle.nmgc_world_spec.specs.{declared.command.Command.TheVariants.Con, declared.command.Command.TheVariants.Var, declared.command.Command.TheVariants.Arr, declared.command.Command.TheVariants.Thunk, declared.command.Command.TheVariants.Weak, declared.command.Command.TheVariants.Stack, World.Fits}
+use Rattle.nmgc_world_spec.specs.{declared.command.Command.TheVariants.Con, declared.command.Command.TheVariants.Var, declared.command.Command.TheVariants.Arr, declared.command.Command.TheVariants.Rec, declared.command.Command.TheVariants.Thunk, declared.command.Command.TheVariants.Weak, declared.command.Command.TheVariants.Stack, World.Fits}
 use Rattle.nmgc_world_spec.specs.declared.node.Node.TheVariants as node
 use Rattle.nmgc_round.proofs.Lists.{operand_means}
 
@@ -9,6 +9,7 @@ pub made_header : (words : ℕ) (c : Command) → words ≤ most_segment_words �
 made_header words (Con dest tag fields) le f m = (f.numbers, let z = f.size in omega arith)
 made_header words (Var dest v) le f m = (refl, refl)
 made_header words (Arr dest count v) le f m = (refl, let z = f.size in omega arith)
+made_header words (Rec dest fields) le f m = (refl, let z = f.size in omega arith)
 made_header words (Thunk dest free) le f m = (refl, (omega arith, let n = f.numbers in omega arith))
 made_header words (Weak dest key v finaliser) le f m = (refl, refl)
 made_header words (Stack dest size) le f m = (refl, let z = f.size in omega arith)
@@ -138,6 +139,19 @@ module _ (P : Place → Type 0) (ws : List ℕ) (w : World) (m : ℕ) (g : P (re
         values_fill P words from (replicate count (value_of vs v))
         (all_from P words from (replicate count (word_of ws v)) (replicate count (value_of vs v))
         (replicate_means P count (word_of ws v) (value_of vs v) (operand_means P ws vs v g k)) s);
+    hand = λ h at. bearing_plain h dest at _ (λ n values e. cc);
+  }
+  maker (Rec dest fields) is = record {
+    dest = dest;
+    made = node.Arr (map (value_of vs) fields);
+    does = refl;
+    head = rw length-map refl;
+    size = rw length-map refl;
+    sized = tt;
+    owes = refl;
+    fields = λ words from s.
+        values_fill P words from (map (value_of vs) fields) (all_from P words from (map (word_of ws) fields) (map (value_of vs) fields)
+        (operands_mean P ws vs fields g k) s);
     hand = λ h at. bearing_plain h dest at _ (λ n values e. cc);
   }
   maker (Thunk dest free) is = record {

@@ -1,6 +1,6 @@
 -- Commands whose position in the order is a load of the header of g keep the rule.
 use Rattle.nmgc_round.proofs.Vocabulary.{◌≡◌, ◌<◌, ◌⊎◌, drop, inl, inr, ℕ, ◌+◌, ◌*◌, ◌/◌, ◌%◌, ◌≤◌, Bool, true, false, cond, eqb, leb, List, [], ◌∷◌, length, set, refl, sym, ap, subst, ◌∙◌, arith, slice_index, None, Some, ne_eqb, eq-eqb, eqb-true, le-ltb, Contains, slice_get, slice_get_past, and_parts, some, get_elem?, Name, Value, Node, Change, Operand, Command, Num, Nil, Mov, Get, Tag, Set, Cas, Update, Force, Push, Pop, Deref, Finalise, NextFin, Show, Same, Yield, Collect, Full, Reply, Fine, Yes, No, Given, NoPointer, NoField, WrongKind, NotOwner, Fixed, Nothing, MutatorState, World, state_of, node_of, given_or, field_read, tag_read, field_set, is_same, exchanged_at, field_exchanged, thunk_updated, result_read, value_read, weak_finalised, stack_pushed, stack_popped, changed, change_into, holding_given, with_state, value_for, object_of, read_object, read_into, keeping, change_object, with_register, with_node, step, field_held, if_same, free_held, top_held, weak_held, value_held, owed_in, owed_of, names_among, owed_by, header_word, name_word, IsName, Header, header_of, Place, Means, ListMeans, Hand, holding, leaves, Answer, plain, word, Opening, Part, Seen, FixedWord, hand_now, answered, doing, done_by, Object, place_of, IsObject, IsIn, now, Answers, IsHand, Fits, Rests, Keeps, IsMutator, CanGive, Names, IsReadable, IsWritable, operand_word, header_at, get_refusal, set_refusal, owner_refusal, first_answer, refused, known_answer, IsRefused, IsForeign, CanAnswer, known, AddsCommand, nodes_kept, node_cases, state_same, tested_same, is_same_name-refl, contains_head, contains_tail, contains_cases, both, ◌&&◌}
-use Rattle.nmgc_world_spec.specs.declared.command.Command.TheVariants.{Con, Var, Arr, Thunk, Weak, Stack}
+use Rattle.nmgc_world_spec.specs.declared.command.Command.TheVariants.{Con, Var, Arr, Rec, Thunk, Weak, Stack}
 use Rattle.nmgc_world_spec.specs.declared.value.Value.TheVariants as value
 use Rattle.nmgc_world_spec.specs.declared.node.Node.TheVariants as node
 use Rattle.nmgc_world_spec.specs.declared.change.Change.TheVariants as change
@@ -648,6 +648,7 @@ module _ (o : Opening) (words : List ℕ) (views : List Seen) (h : Keeps o words
   known_keeps (Con dest tag fields) can = absurd can.known
   known_keeps (Var dest x) can = absurd can.known
   known_keeps (Arr dest count x) can = absurd can.known
+  known_keeps (Rec dest fields) can = absurd can.known
   known_keeps (Thunk dest free) can = absurd can.known
   known_keeps (Weak dest key x finaliser) can = absurd can.known
   known_keeps (Stack dest size) can = absurd can.known

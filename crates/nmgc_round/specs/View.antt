@@ -4,7 +4,7 @@
 -- name there or allocated the object; so a row never changes.
 use Rattle.std.specs.Prelude.{ℕ, suc, ◌+◌, ◌*◌, ◌-◌, ◌/◌, ◌==◌, List, [], ◌∷◌, ◌++◌, map, drop, take, length, slice_index_or, slice_set, Bool, true, false, if◌then◌else◌}
 use Rattle.nmgc_world_spec.specs.{declared.command.Operand.Operand, declared.command.Operand.TheVariants.Register, declared.command.Operand.TheVariants.Shared, declared.command.Command.Command, declared.command.Reply.Reply, declared.command.Reply.TheVariants.Fine, declared.value.Name.Name, World.words_made, World.new_world}
-use Rattle.nmgc_world_spec.specs.declared.command.Command.TheVariants.{Num, Nil, Mov, Con, Var, Arr, Thunk, Weak, Stack, Get, Tag, Set, Cas, Update, Force, Push, Pop, Deref, Finalise, NextFin, Show, Same, Yield, Collect, Full}
+use Rattle.nmgc_world_spec.specs.declared.command.Command.TheVariants.{Num, Nil, Mov, Con, Var, Arr, Rec, Thunk, Weak, Stack, Get, Tag, Set, Cas, Update, Force, Push, Pop, Deref, Finalise, NextFin, Show, Same, Yield, Collect, Full}
 use Rattle.nmgc_object.specs.{Words.name_word, declared.layout.Layout.Layout, declared.layout.TheConstants.SHARED_PLACE, declared.words.TheConstants.NIL_WORD, declared.words.TheConstants.ZERO_WORD}
 use Rattle.nmgc_snapshot_laws.specs.{declared.event.Entry.Entry, State.State, State.unmarked}
 use Rattle.nmgc_heap_spec.specs.Objects.{Place}
@@ -132,6 +132,7 @@ leaves h (Mov dest v) a = holding h dest (word_of h.registers v)
 leaves h (Con dest tag fields) a = bearing h dest a
 leaves h (Var dest v) a = bearing h dest a
 leaves h (Arr dest count v) a = bearing h dest a
+leaves h (Rec dest fields) a = bearing h dest a
 leaves h (Thunk dest free) a = bearing h dest a
 leaves h (Weak dest key v finaliser) a = bearing h dest a
 leaves h (Stack dest size) a = stacking (bearing h dest a) a

@@ -1,5 +1,5 @@
 -- A verb is read with n tokens exactly if a command of its name has n tokens.
-use Rattle.nmgc_script.proofs.Vocabulary.{◌≡◌, ◌≤◌, ◌+◌, ◌-◌, ℕ, zero, suc, List, [], ◌∷◌, length, refl, sym, ap, subst, ◌∙◌, arith, codes, Result, Ok, AllByRecursion, length-map, All-from_recursion, Operand, Shared, Command, Num, Nil, Mov, Con, Var, Arr, Thunk, Weak, Stack, Get, Tag, Set, Cas, Update, Force, Push, Pop, Deref, Finalise, NextFin, Show, Same, Yield, Collect, Full, IsOperandBelow, HasRegistersBelow, HasNumbers, Cause, Verb, Version, IsUsable, operand_word, verb_name, command_words, first_of, HasArity, named_at, has_verb, IsSince, true, le-leb, leb-true, operands_at}
+use Rattle.nmgc_script.proofs.Vocabulary.{◌≡◌, ◌≤◌, ◌+◌, ◌-◌, ℕ, zero, suc, List, [], ◌∷◌, length, refl, sym, ap, subst, ◌∙◌, arith, codes, Result, Ok, AllByRecursion, length-map, All-from_recursion, Operand, Shared, Command, Num, Nil, Mov, Con, Var, Arr, Rec, Thunk, Weak, Stack, Get, Tag, Set, Cas, Update, Force, Push, Pop, Deref, Finalise, NextFin, Show, Same, Yield, Collect, Full, IsOperandBelow, HasRegistersBelow, HasNumbers, Cause, Verb, Version, IsUsable, operand_word, verb_name, command_words, first_of, HasArity, named_at, has_verb, IsSince, true, le-leb, leb-true, operands_at}
 use Rattle.nmgc_script.specs.declared.verbs.Verb.TheVariants as verb
 use Rattle.nmgc_script.proofs.{WordLaws.ok_is, VerbLaws.named_again, CommandLaws.words_read, CauseLaws.HasCount, CauseLaws.CausesArity, CauseLaws.operands_cause}
 
@@ -45,6 +45,18 @@ con_some ver usable m n e = (
   omega (arith, e, length-map (shared m) operand_word, length_shared m),
 )
 
+rec_some : (ver : Version) (usable : IsUsable ver) (m n : ℕ) → n ≡ 2 + m → n ≤ 65537 → HasArity ver (codes "rec") n
+rec_some ver usable m n e most = (
+  Rec 0 (shared m),
+  (
+    omega (arith, usable.some_register),
+    All-from_recursion (IsOperandBelow ver.registers) (shared m) (all_shared ver usable m),
+  ),
+  omega (arith, e, most, length_shared m),
+  refl,
+  omega (arith, e, length-map (shared m) operand_word, length_shared m),
+)
+
 thunk_some : (ver : Version) (usable : IsUsable ver) (m n : ℕ) → n ≡ 2 + m → n ≤ 10 → HasArity ver (codes "thunk") n
 thunk_some ver usable m n e most = (
   Thunk 0 (shared m),
@@ -65,6 +77,7 @@ count_some ver usable verb.Mov n h = (Mov 0 Shared, (omega (arith, usable.some_r
 count_some ver usable verb.Con n h = con_some ver usable (n - 3) n (omega (arith, h))
 count_some ver usable verb.Var n h = (Var 0 Shared, (omega (arith, usable.some_register), tt), tt, refl, sym h)
 count_some ver usable verb.Arr n h = (Arr 0 0 Shared, (omega (arith, usable.some_register), tt), omega arith, refl, sym h)
+count_some ver usable verb.Rec n h = rec_some ver usable (n - 2) n (omega (arith, h.0)) h.1
 count_some ver usable verb.Thunk n h = thunk_some ver usable (n - 2) n (omega (arith, h.0)) h.1
 count_some ver usable verb.Weak n h = (Weak 0 Shared Shared Shared, (omega (arith, usable.some_register), tt, tt, tt), tt, refl, sym h)
 count_some ver usable verb.Stack n h = (Stack 0 0, omega (arith, usable.some_register), omega arith, refl, sym h)
@@ -93,6 +106,7 @@ named_command verb.Mov = (Mov 0 Shared, refl)
 named_command verb.Con = (Con 0 0 [], refl)
 named_command verb.Var = (Var 0 Shared, refl)
 named_command verb.Arr = (Arr 0 0 Shared, refl)
+named_command verb.Rec = (Rec 0 [], refl)
 named_command verb.Thunk = (Thunk 0 [], refl)
 named_command verb.Weak = (Weak 0 Shared Shared Shared, refl)
 named_command verb.Stack = (Stack 0 0, refl)
@@ -121,6 +135,7 @@ named_verb (Mov a b) = (verb.Mov, refl)
 named_verb (Con a b c) = (verb.Con, refl)
 named_verb (Var a b) = (verb.Var, refl)
 named_verb (Arr a b c) = (verb.Arr, refl)
+named_verb (Rec a b) = (verb.Rec, refl)
 named_verb (Thunk a b) = (verb.Thunk, refl)
 named_verb (Weak a b c d) = (verb.Weak, refl)
 named_verb (Stack a b) = (verb.Stack, refl)
@@ -144,10 +159,12 @@ named_verb Full = (verb.Full, refl)
 -- a version that has the command has its verb, and the other way round
 pub since_verb : (ver : Version) (c : Command) → IsSince ver.number c → has_verb ver (named_verb c).0 ≡ true
 unfolding named_verb
+since_verb ver (Rec dest fields) since = le-leb 3 ver.number since
 since_verb ver (Tag dest object) since = le-leb 3 ver.number since
 since_verb ver _ since = refl
 
 pub since_command : (ver : Version) (v : Verb) → has_verb ver v ≡ true → IsSince ver.number (named_command v).0
 unfolding named_command
+since_command ver verb.Rec has = leb-true 3 ver.number has
 since_command ver verb.Tag has = leb-true 3 ver.number has
 since_command ver _ has = tt

@@ -1,5 +1,5 @@
 -- Which cause reading gives if it fails.
-use Rattle.nmgc_script.proofs.Vocabulary.{◌≡◌, ◌≤◌, ◌-◌, ◌^◌, ◌⊎◌, ℕ, suc, List, [], ◌∷◌, length, refl, sym, ◌∙◌, arith, inl, inr, Bool, true, false, cond, codes, leb, eqb, Result, Ok, Err, bytes_eq, digits_value, le-leb, leb-true, Command, Num, Nil, Mov, Con, Var, Arr, Thunk, Weak, Stack, Get, Tag, Set, Cas, Update, Force, Push, Pop, Deref, Finalise, NextFin, Show, Same, Yield, Collect, Full, Cause, Verb, Version, IsUsable, ◌>>=◌, number_at, register_at, operand_at, long_at, short_at, each_at, none_at, one_at, two_at, three_at, four_at, con_at, thunk_at, operands_at}
+use Rattle.nmgc_script.proofs.Vocabulary.{◌≡◌, ◌≤◌, ◌+◌, ◌-◌, ◌^◌, ◌⊎◌, ℕ, suc, List, [], ◌∷◌, length, refl, sym, ◌∙◌, arith, inl, inr, Bool, true, false, cond, codes, leb, eqb, Result, Ok, Err, bytes_eq, digits_value, le-leb, leb-true, Command, Num, Nil, Mov, Con, Var, Arr, Rec, Thunk, Weak, Stack, Get, Tag, Set, Cas, Update, Force, Push, Pop, Deref, Finalise, NextFin, Show, Same, Yield, Collect, Full, Cause, Verb, Version, IsUsable, ◌>>=◌, number_at, register_at, operand_at, long_at, short_at, each_at, none_at, one_at, two_at, three_at, four_at, con_at, values_at, operands_at}
 use Rattle.nmgc_script.specs.declared.fault.Cause.TheVariants as cause
 use Rattle.nmgc_script.specs.declared.verbs.Verb.TheVariants as verb
 use Rattle.nmgc_script.proofs.WordLaws.{FailsBy, fails_choose}
@@ -119,16 +119,16 @@ arity_choose : {A : Type 0} (b : Bool) (r : Result A Cause) (P : Type 0) → (b 
 arity_choose true r P h k = h refl
 arity_choose false r P h k = inl (refl, k refl)
 
-thunk_cause : (ver : Version) (usable : IsUsable ver) (words : List (List ℕ)) →
-    CausesArity (thunk_at ver words) ((2 ≤ suc (length words)) × (suc (length words) ≤ 10))
-unfolding thunk_at
-thunk_cause ver usable [] = inl (refl, λ e. absurd (omega (arith, e.0)))
-thunk_cause ver usable (dest ∷ free) =
-    arity_choose (leb (length free) 8) _ _
-    (λ e. let right : (2 ≤ suc (suc (length free))) × (suc (suc (length free)) ≤ 10) = (omega arith, omega (arith, leb-true (length free) 8 e)) in
+values_cause : (ver : Version) (usable : IsUsable ver) (most : ℕ) (words : List (List ℕ)) →
+    CausesArity (values_at ver most words) ((2 ≤ suc (length words)) × (suc (length words) ≤ most + 2))
+unfolding values_at
+values_cause ver usable most [] = inl (refl, λ e. absurd (omega (arith, e.0)))
+values_cause ver usable most (dest ∷ values) =
+    arity_choose (leb (length values) most) _ _
+    (λ e. let right : (2 ≤ suc (suc (length values))) × (suc (suc (length values)) ≤ most + 2) = (omega arith, omega (arith, leb-true (length values) most e)) in
     word_then (register_at ver dest) _ _ right (register_fails ver usable dest) (λ d.
-    word_then (each_at (operand_at ver) free) _ _ right (each_fails ver usable free) (λ fs. right)))
-    (λ e p. let le : length free ≤ 8 = omega (arith, p.1) in absurd (let never : false ≡ true = sym e ∙ le-leb (length free) 8 le in cc))
+    word_then (each_at (operand_at ver) values) _ _ right (each_fails ver usable values) (λ vs. right)))
+    (λ e p. let le : length values ≤ most = omega (arith, p.1) in absurd (let never : false ≡ true = sym e ∙ le-leb (length values) most le in cc))
 
 -- the verb is read with this number of tokens, its name included
 abbrev pub HasCount : Verb → ℕ → Type 0
@@ -138,6 +138,7 @@ HasCount verb.Mov n = n ≡ 3
 HasCount verb.Con n = 3 ≤ n
 HasCount verb.Var n = n ≡ 3
 HasCount verb.Arr n = n ≡ 4
+HasCount verb.Rec n = (2 ≤ n) × (n ≤ 65537)
 HasCount verb.Thunk n = (2 ≤ n) × (n ≤ 10)
 HasCount verb.Weak n = n ≡ 5
 HasCount verb.Stack n = n ≡ 3
@@ -172,7 +173,8 @@ operands_cause ver usable verb.Var name words = made_cause (two_at (register_at 
 operands_cause ver usable verb.Arr name words = made_cause (three_at (register_at ver) short_at (operand_at ver) words) (λ p.
     Arr p.0 p.1 p.2) _ (three_cause (register_at ver) (register_fails ver usable) short_at (number_fails 65535) (operand_at ver)
     (operand_fails ver usable) words)
-operands_cause ver usable verb.Thunk name words = made_cause (thunk_at ver words) (λ p. Thunk p.0 p.1) _ (thunk_cause ver usable words)
+operands_cause ver usable verb.Rec name words = made_cause (values_at ver 65535 words) (λ p. Rec p.0 p.1) _ (values_cause ver usable 65535 words)
+operands_cause ver usable verb.Thunk name words = made_cause (values_at ver 8 words) (λ p. Thunk p.0 p.1) _ (values_cause ver usable 8 words)
 operands_cause ver usable verb.Weak name words =
     made_cause (four_at (register_at ver) (operand_at ver) (operand_at ver) (operand_at ver) words) (λ p.
     Weak p.0 p.1 p.2 p.3) _ (four_cause (register_at ver) (register_fails ver usable) (operand_at ver) (operand_fails ver usable) (operand_at ver)

@@ -1,8 +1,8 @@
 -- A command is read exactly from its spelling.
-use Rattle.nmgc_script.proofs.Vocabulary.{◌≡◌, ◌≤◌, ℕ, List, [], ◌∷◌, map, refl, sym, ap, ◌∙◌, subst, decimal, leb, Result, Ok, le-leb, leb-true, All-from_recursion, recursion_from_All, Command, Num, Nil, Mov, Con, Var, Arr, Thunk, Weak, Stack, Get, Tag, Set, Cas, Update, Force, Push, Pop, Deref, Finalise, NextFin, Show, Same, Yield, Collect, Full, IsOperandBelow, HasRegistersBelow, HasNumbers, words_made, Fits, Cause, Verb, Version, IsUsable, registers_wider, register_word, operand_word, verb_name, command_words, ◌>>=◌, none_at, operands_at, has_verb, verb_at, first_of, true, IsOf, IsSince, sized, command_at}
+use Rattle.nmgc_script.proofs.Vocabulary.{arith, ◌≡◌, ◌≤◌, ◌<◌, length, ℕ, List, [], ◌∷◌, map, refl, sym, ap, ◌∙◌, subst, decimal, leb, Result, Ok, le-leb, leb-true, All-from_recursion, recursion_from_All, Command, Num, Nil, Mov, Con, Var, Arr, Rec, Thunk, Weak, Stack, Get, Tag, Set, Cas, Update, Force, Push, Pop, Deref, Finalise, NextFin, Show, Same, Yield, Collect, Full, IsOperandBelow, HasRegistersBelow, HasNumbers, words_made, Fits, Cause, Verb, Version, IsUsable, registers_wider, register_word, operand_word, verb_name, command_words, ◌>>=◌, none_at, operands_at, has_verb, verb_at, first_of, true, IsOf, IsSince, sized, command_at}
 use Rattle.nmgc_script.specs.declared.fault.Cause.TheVariants as cause
 use Rattle.nmgc_script.specs.declared.verbs.Verb.TheVariants as verb
-use Rattle.nmgc_script.proofs.{WordLaws.Reads, WordLaws.bind_ok, WordLaws.guard_ok, WordLaws.ok_is, WordLaws.register_reads, WordLaws.operand_reads, VerbLaws.verb_takes, VerbLaws.verb_again, VerbLaws.verb_since, ShapeLaws.long_reads, ShapeLaws.short_reads, ShapeLaws.one_reads, ShapeLaws.two_reads, ShapeLaws.three_reads, ShapeLaws.four_reads, ShapeLaws.con_reads, ShapeLaws.thunk_reads}
+use Rattle.nmgc_script.proofs.{WordLaws.Reads, WordLaws.bind_ok, WordLaws.guard_ok, WordLaws.ok_is, WordLaws.register_reads, WordLaws.operand_reads, VerbLaws.verb_takes, VerbLaws.verb_again, VerbLaws.verb_since, ShapeLaws.long_reads, ShapeLaws.short_reads, ShapeLaws.one_reads, ShapeLaws.two_reads, ShapeLaws.three_reads, ShapeLaws.four_reads, ShapeLaws.con_reads, ShapeLaws.values_reads}
 
 -- a script of the version may have the command if segments have this number of words
 abbrev pub Fit : Version → ℕ → Command → Type 0
@@ -50,7 +50,10 @@ operands_spell ver usable verb.Var words c e = made_spells ver usable (two_reads
 operands_spell ver usable verb.Arr words c e =
     made_spells ver usable (three_reads (register_reads ver usable) short_reads (operand_reads ver usable)) (λ p.
     Arr p.0 p.1 p.2) (verb_name verb.Arr) (λ p h. (refl, (h.0, h.2), h.1)) words c e
-operands_spell ver usable verb.Thunk words c e = made_spells ver usable (thunk_reads ver usable) (λ p. Thunk p.0 p.1) (verb_name verb.Thunk) (λ p h.
+operands_spell ver usable verb.Rec words c e = made_spells ver usable (values_reads ver usable 65535) (λ p. Rec p.0 p.1) (verb_name verb.Rec) (λ p h.
+    let few : length p.1 ≤ 65535 = h.2 in
+    (refl, (h.0, All-from_recursion (IsOperandBelow ver.registers) p.1 h.1), omega (arith, few))) words c e
+operands_spell ver usable verb.Thunk words c e = made_spells ver usable (values_reads ver usable 8) (λ p. Thunk p.0 p.1) (verb_name verb.Thunk) (λ p h.
     (refl, (h.0, All-from_recursion (IsOperandBelow ver.registers) p.1 h.1), h.2)) words c e
 operands_spell ver usable verb.Weak words c e =
     made_spells ver usable (four_reads (register_reads ver usable) (operand_reads ver usable) (operand_reads ver usable) (operand_reads ver usable))
@@ -153,11 +156,18 @@ words_read ver usable (Arr dest count value) r n = (
   refl,
   made_again (three_reads (register_reads ver usable) short_reads (operand_reads ver usable)) (λ p. Arr p.0 p.1 p.2) (dest, count, value) (r.0, n, r.1),
 )
+words_read ver usable (Rec dest fields) r n = (
+  verb.Rec,
+  register_word dest ∷ map operand_word fields,
+  refl,
+  made_again (values_reads ver usable 65535) (λ p. Rec p.0 p.1) (dest, fields)
+      (r.0, recursion_from_All (IsOperandBelow ver.registers) fields r.1, (let few : length fields < 65536 = n in omega (arith, few))),
+)
 words_read ver usable (Thunk dest free) r n = (
   verb.Thunk,
   register_word dest ∷ map operand_word free,
   refl,
-  made_again (thunk_reads ver usable) (λ p. Thunk p.0 p.1) (dest, free) (r.0, recursion_from_All (IsOperandBelow ver.registers) free r.1, n),
+  made_again (values_reads ver usable 8) (λ p. Thunk p.0 p.1) (dest, free) (r.0, recursion_from_All (IsOperandBelow ver.registers) free r.1, n),
 )
 words_read ver usable (Weak dest key value finaliser) r n = (
   verb.Weak,
@@ -259,6 +269,7 @@ command_from ver usable size v words c has e le = rw (verb_again ver v has, e, s
 read_since : (ver : Version) (usable : IsUsable ver) (c : Command) (r : HasRegistersBelow ver.registers c) (n : HasNumbers c) → IsSince ver.number c →
     has_verb ver (words_read ver usable c r n).0 ≡ true
 unfolding words_read
+read_since ver usable (Rec dest fields) r n since = le-leb 3 ver.number since
 read_since ver usable (Tag dest object) r n since = le-leb 3 ver.number since
 read_since ver usable _ r n since = refl
 

@@ -94,6 +94,7 @@ verb_apart verb.Mov = refl
 verb_apart verb.Con = refl
 verb_apart verb.Var = refl
 verb_apart verb.Arr = refl
+verb_apart verb.Rec = refl
 verb_apart verb.Thunk = refl
 verb_apart verb.Weak = refl
 verb_apart verb.Stack = refl

@@ -1,5 +1,5 @@
 -- The tokens after a name are read exactly as they are written, shape by shape.
-use Rattle.nmgc_script.proofs.Vocabulary.{◌≡◌, ◌≤◌, ◌<◌, ◌-◌, ◌^◌, ℕ, List, [], ◌∷◌, map, length, get_or, refl, ap, subst, arith, inl, inr, decimal, leb, Result, Ok, Err, AllByRecursion, le-leb, leb-true, length-map, Operand, IsRegisterBelow, IsOperandBelow, Cause, LineFault, Version, IsUsable, register_word, operand_word, ◌>>=◌, Fails, register_at, operand_at, long_at, short_at, tag_at, each_at, one_at, two_at, three_at, four_at, con_at, thunk_at, chosen}
+use Rattle.nmgc_script.proofs.Vocabulary.{◌≡◌, ◌≤◌, ◌<◌, ◌-◌, ◌^◌, ℕ, List, [], ◌∷◌, map, length, get_or, refl, ap, subst, arith, inl, inr, decimal, leb, Result, Ok, Err, AllByRecursion, le-leb, leb-true, length-map, Operand, IsRegisterBelow, IsOperandBelow, Cause, LineFault, Version, IsUsable, register_word, operand_word, ◌>>=◌, Fails, register_at, operand_at, long_at, short_at, tag_at, each_at, one_at, two_at, three_at, four_at, con_at, values_at, chosen}
 use Rattle.nmgc_script.specs.declared.fault.Cause.TheVariants as cause
 use Rattle.nmgc_script.proofs.{WordLaws.Reads, WordLaws.bind_ok, WordLaws.ok_is, WordLaws.number_reads, WordLaws.register_reads, WordLaws.operand_reads, WordLaws.each_reads, Each.fails_bind}
 
@@ -133,34 +133,34 @@ con_reads ver usable = record { takes = takes; again = again }
         con_at ver (register_word p.0 ∷ decimal p.1 ∷ map operand_word p.2) ≡ Ok p
     again p h = rw ((register_reads ver usable).again p.0 h.0, tag_reads.again p.1 h.1, (fields_reads ver usable).again p.2 h.2) refl
 
-pub thunk_reads : (ver : Version) (usable : IsUsable ver) → Reads (thunk_at ver) (λ p. register_word p.0 ∷ map operand_word p.1) (λ p.
-    IsRegisterBelow ver.registers p.0 × AllByRecursion (IsOperandBelow ver.registers) p.1 × (length p.1 ≤ 8))
-unfolding thunk_at
-thunk_reads ver usable = record { takes = takes; again = again }
+pub values_reads : (ver : Version) (usable : IsUsable ver) (most : ℕ) → Reads (values_at ver most) (λ p. register_word p.0 ∷ map operand_word p.1) (λ p.
+    IsRegisterBelow ver.registers p.0 × AllByRecursion (IsOperandBelow ver.registers) p.1 × (length p.1 ≤ most))
+unfolding values_at
+values_reads ver usable most = record { takes = takes; again = again }
   where
-    takes : (words : List (List ℕ)) (p : ℕ × List Operand) → thunk_at ver words ≡ Ok p → (words ≡ register_word p.0 ∷ map operand_word p.1) ×
-        (IsRegisterBelow ver.registers p.0 × AllByRecursion (IsOperandBelow ver.registers) p.1 × (length p.1 ≤ 8))
+    takes : (words : List (List ℕ)) (p : ℕ × List Operand) → values_at ver most words ≡ Ok p → (words ≡ register_word p.0 ∷ map operand_word p.1) ×
+        (IsRegisterBelow ver.registers p.0 × AllByRecursion (IsOperandBelow ver.registers) p.1 × (length p.1 ≤ most))
     takes [] p e = absurd cc
-    takes (dest ∷ free) p e =
-        elim (chosen (leb (length free) 8) (register_at ver dest >>= λ d. each_at (operand_at ver) free >>= λ fs. Ok (d, fs)) (Err cause.Arity) (Ok p) e) [
+    takes (dest ∷ values) p e =
+        elim (chosen (leb (length values) most) (register_at ver dest >>= λ d. each_at (operand_at ver) values >>= λ vs. Ok (d, vs)) (Err cause.Arity) (Ok p) e) [
           | inl c ↦
               let d = bind_ok (register_at ver dest) _ p c.1 in
-              let f = bind_ok (each_at (operand_at ver) free) _ p d.2 in
+              let f = bind_ok (each_at (operand_at ver) values) _ p d.2 in
               let dw = (register_reads ver usable).takes dest d.0 d.1 in
-              let fw = (fields_reads ver usable).takes free f.0 f.1 in
-              let few : length f.0 ≤ 8 = omega (arith, leb-true (length free) 8 c.0, ap length fw.0, length-map f.0 operand_word) in
-              let same : dest ∷ free ≡ register_word d.0 ∷ map operand_word f.0 = cc (dw.0, fw.0) in
-              subst (λ (q : ℕ × List Operand). (dest ∷ free ≡ register_word q.0 ∷ map operand_word q.1) ×
+              let fw = (fields_reads ver usable).takes values f.0 f.1 in
+              let few : length f.0 ≤ most = omega (arith, leb-true (length values) most c.0, ap length fw.0, length-map f.0 operand_word) in
+              let same : dest ∷ values ≡ register_word d.0 ∷ map operand_word f.0 = cc (dw.0, fw.0) in
+              subst (λ (q : ℕ × List Operand). (dest ∷ values ≡ register_word q.0 ∷ map operand_word q.1) ×
               (IsRegisterBelow ver.registers q.0 × AllByRecursion (IsOperandBelow ver.registers) q.1 ×
-              (length q.1 ≤ 8))) (ok_is {E = Cause} (d.0, f.0) p f.2) (same, (dw.1, fw.1, few))
+              (length q.1 ≤ most))) (ok_is {E = Cause} (d.0, f.0) p f.2) (same, (dw.1, fw.1, few))
           | inr c ↦ absurd (let never : Err cause.Arity ≡ Ok p = c.1 in cc)
         ]
 
-    again : (p : ℕ × List Operand) → (IsRegisterBelow ver.registers p.0 × AllByRecursion (IsOperandBelow ver.registers) p.1 × (length p.1 ≤ 8)) →
-        thunk_at ver (register_word p.0 ∷ map operand_word p.1) ≡ Ok p
+    again : (p : ℕ × List Operand) → (IsRegisterBelow ver.registers p.0 × AllByRecursion (IsOperandBelow ver.registers) p.1 × (length p.1 ≤ most)) →
+        values_at ver most (register_word p.0 ∷ map operand_word p.1) ≡ Ok p
     again p h = rw (
       length-map p.1 operand_word,
-      le-leb (length p.1) 8 h.2,
+      le-leb (length p.1) most h.2,
       (register_reads ver usable).again p.0 h.0,
       (fields_reads ver usable).again p.1 h.1,
     ) refl

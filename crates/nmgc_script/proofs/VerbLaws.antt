@@ -1,5 +1,5 @@
 -- A verb is looked up exactly from its name.
-use Rattle.nmgc_script.proofs.{Vocabulary.◌≡◌, Vocabulary.ℕ, Vocabulary.List, Vocabulary.[], Vocabulary.◌∷◌, Vocabulary.refl, Vocabulary.ap, Vocabulary.◌∙◌, Vocabulary.inl, Vocabulary.inr, Vocabulary.Ok, Vocabulary.Err, Vocabulary.bytes_eq, Vocabulary.bytes_eq-Decides, Vocabulary.Cause, Vocabulary.Verb, Vocabulary.VERBS, Vocabulary.verb_name, Vocabulary.first_named, Vocabulary.named_at, Vocabulary.has_verb, Vocabulary.verb_at, Vocabulary.chosen, Vocabulary.Version, Vocabulary.Command, Vocabulary.Tag, Vocabulary.IsSince, Vocabulary.command_words, Vocabulary.first_of, Vocabulary.true, Vocabulary.sym, Vocabulary.subst, Vocabulary.leb-true, Vocabulary.◌>>=◌, WordLaws.FailsBy, WordLaws.fails_choose, WordLaws.ok_is, WordLaws.bind_ok, WordLaws.guard_ok, CauseLaws.fails_then}
+use Rattle.nmgc_script.proofs.{Vocabulary.◌≡◌, Vocabulary.ℕ, Vocabulary.List, Vocabulary.[], Vocabulary.◌∷◌, Vocabulary.refl, Vocabulary.ap, Vocabulary.◌∙◌, Vocabulary.inl, Vocabulary.inr, Vocabulary.Ok, Vocabulary.Err, Vocabulary.bytes_eq, Vocabulary.bytes_eq-Decides, Vocabulary.Cause, Vocabulary.Verb, Vocabulary.VERBS, Vocabulary.verb_name, Vocabulary.first_named, Vocabulary.named_at, Vocabulary.has_verb, Vocabulary.verb_at, Vocabulary.chosen, Vocabulary.Version, Vocabulary.Command, Vocabulary.Rec, Vocabulary.Tag, Vocabulary.IsSince, Vocabulary.command_words, Vocabulary.first_of, Vocabulary.true, Vocabulary.sym, Vocabulary.subst, Vocabulary.leb-true, WordLaws.FailsBy, WordLaws.fails_choose, WordLaws.ok_is, WordLaws.bind_ok, WordLaws.guard_ok, CauseLaws.fails_then}
 use Rattle.nmgc_script.specs.declared.fault.Cause.TheVariants as cause
 use Rattle.nmgc_script.specs.declared.verbs.Verb.TheVariants as verb
 
@@ -33,6 +33,7 @@ named_again verb.Mov = refl
 named_again verb.Con = refl
 named_again verb.Var = refl
 named_again verb.Arr = refl
+named_again verb.Rec = refl
 named_again verb.Thunk = refl
 named_again verb.Weak = refl
 named_again verb.Stack = refl
@@ -74,9 +75,14 @@ pub verb_of_nothing : (ver : Version) → verb_at ver [] ≡ Err cause.Command
 unfolding verb_at first_named
 verb_of_nothing ver = refl
 
+-- a version that has a verb has the verb of the same name
+same_verb : (ver : Version) (v k : Verb) → has_verb ver v ≡ true → verb_name v ≡ verb_name k → has_verb ver k ≡ true
+same_verb ver v k has e =
+    let same : v ≡ k = ok_is {E = Cause} v k (sym (named_again v) ∙ ap named_at e ∙ named_again k) in
+    subst (λ (i : Verb). has_verb ver i ≡ true) same has
+
 -- a command with the name of a verb that the version has is one of the version
 pub verb_since : (ver : Version) (v : Verb) (c : Command) → has_verb ver v ≡ true → verb_name v ≡ first_of (command_words c) → IsSince ver.number c
-verb_since ver v (Tag dest object) has e =
-    let same : v ≡ verb.Tag = ok_is {E = Cause} v verb.Tag (sym (named_again v) ∙ ap named_at e ∙ named_again verb.Tag) in
-    leb-true 3 ver.number (subst (λ (k : Verb). has_verb ver k ≡ true) same has)
+verb_since ver v (Rec dest fields) has e = leb-true 3 ver.number (same_verb ver v verb.Rec has e)
+verb_since ver v (Tag dest object) has e = leb-true 3 ver.number (same_verb ver v verb.Tag has e)
 verb_since ver v _ has e = tt

@@ -7,7 +7,7 @@ use Rattle.std.specs.Prelude.{◌≡◌, ℕ, ◌+◌, ◌-◌, ◌^◌, List, [
 use Rattle.std.specs.{Int.is_power_of_two, Str.bytes_eq, Str.Parse.digits_value}
 use Rattle.nmgc_limits.specs.Limits.{most_nursery_words, most_quota, most_segment_words, least_segment_words, most_slice, most_trigger}
 use Rattle.nmgc_world_spec.specs.{declared.command.Operand.Operand, declared.command.Operand.TheVariants.Register, declared.command.Operand.TheVariants.Shared, declared.command.Command.Command, World.words_made}
-use Rattle.nmgc_world_spec.specs.declared.command.Command.TheVariants.{Num, Nil, Mov, Con, Var, Arr, Thunk, Weak, Stack, Get, Tag, Set, Cas, Update, Force, Push, Pop, Deref, Finalise, NextFin, Show, Same, Yield, Collect, Full}
+use Rattle.nmgc_world_spec.specs.declared.command.Command.TheVariants.{Num, Nil, Mov, Con, Var, Arr, Rec, Thunk, Weak, Stack, Get, Tag, Set, Cas, Update, Force, Push, Pop, Deref, Finalise, NextFin, Show, Same, Yield, Collect, Full}
 use Rattle.nmgc_io.specs.Text.{tokens_of, lines_of}
 use Rattle.nmgc_script.specs.{declared.fault.Cause.Cause, declared.fault.LineFault.LineFault, declared.fault.ScriptFault.ScriptFault, declared.script.Config.Config, declared.script.Script.Script, declared.verbs.Verb.Verb, declared.verbs.TheConstants.VERBS, declared.version.Version.Version, declared.sections.Entry.Entry, Parts.total_words, Spelling.version_1, Spelling.version_2, Spelling.version_3, Spelling.kept_from, Parts.verb_name}
 use Rattle.nmgc_script.specs.declared.fault.Cause.TheVariants as cause
@@ -110,11 +110,11 @@ con_at version (dest ∷ tag ∷ fields) = do
   Ok (d, t, fs)
 con_at version words = Err cause.Arity
 
--- the register and the operands, at most eight, that tokens spell
-unfoldable pub thunk_at : Version → List (List ℕ) → Result (ℕ × List Operand) Cause
-thunk_at version [] = Err cause.Arity
-thunk_at version (dest ∷ free) =
-    if nat_le (length free) 8 then (register_at version dest >>= λ d. each_at (operand_at version) free >>= λ fs. Ok (d, fs)) else Err cause.Arity
+-- the register and the operands, at most this number, that tokens spell
+unfoldable pub values_at : Version → ℕ → List (List ℕ) → Result (ℕ × List Operand) Cause
+values_at version most [] = Err cause.Arity
+values_at version most (dest ∷ values) =
+    if nat_le (length values) most then (register_at version dest >>= λ d. each_at (operand_at version) values >>= λ vs. Ok (d, vs)) else Err cause.Arity
 
 -- the command that a verb and the tokens after its name spell
 abbrev pub operands_at : Version → Verb → List (List ℕ) → Result Command Cause
@@ -124,7 +124,8 @@ operands_at v verb.Mov words = two_at (register_at v) (operand_at v) words >>= �
 operands_at v verb.Con words = con_at v words >>= λ p. Ok (Con p.0 p.1 p.2)
 operands_at v verb.Var words = two_at (register_at v) (operand_at v) words >>= λ p. Ok (Var p.0 p.1)
 operands_at v verb.Arr words = three_at (register_at v) short_at (operand_at v) words >>= λ p. Ok (Arr p.0 p.1 p.2)
-operands_at v verb.Thunk words = thunk_at v words >>= λ p. Ok (Thunk p.0 p.1)
+operands_at v verb.Rec words = values_at v 65535 words >>= λ p. Ok (Rec p.0 p.1)
+operands_at v verb.Thunk words = values_at v 8 words >>= λ p. Ok (Thunk p.0 p.1)
 operands_at v verb.Weak words = four_at (register_at v) (operand_at v) (operand_at v) (operand_at v) words >>= λ p. Ok (Weak p.0 p.1 p.2 p.3)
 operands_at v verb.Stack words = two_at (register_at v) short_at words >>= λ p. Ok (Stack p.0 p.1)
 operands_at v verb.Get words = three_at (register_at v) (operand_at v) short_at words >>= λ p. Ok (Get p.0 p.1 p.2)
@@ -155,8 +156,9 @@ first_named name (v ∷ vs) = if bytes_eq name (verb_name v) then Ok v else firs
 abbrev pub named_at : List ℕ → Result Verb Cause
 named_at name = first_named name VERBS
 
--- whether the version has a verb: `tag` is new in version 3
+-- whether the version has a verb: `tag` and `rec` are new in version 3
 abbrev pub has_verb : Version → Verb → Bool
+has_verb version verb.Rec = nat_le 3 version.number
 has_verb version verb.Tag = nat_le 3 version.number
 has_verb version _ = true
 

@@ -3,7 +3,7 @@ use Rattle.std.specs.Prelude.{All, List, [], codes, decimal, if◌then◌else◌
 use Rattle.std.specs.Str.{bytes_eq}
 use Rattle.nmgc_limits.specs.Limits.{IsSegmentSize, most_heap_words, most_nursery_words, most_quota, most_script_bytes, most_segments, most_slice, most_trigger}
 use Rattle.nmgc_limits.specs.declared.mutators.TheConstants.{MAKERS, REGISTERS}
-use Rattle.nmgc_world_spec.specs.declared.command.Command.TheVariants.{Arr, Cas, Collect, Con, Deref, Finalise, Force, Full, Get, Mov, NextFin, Nil, Num, Pop, Push, Same, Set, Show, Stack, Tag, Thunk, Update, Var, Weak, Yield}
+use Rattle.nmgc_world_spec.specs.declared.command.Command.TheVariants.{Arr, Cas, Collect, Con, Deref, Finalise, Force, Full, Get, Mov, NextFin, Nil, Num, Pop, Push, Rec, Same, Set, Show, Stack, Tag, Thunk, Update, Var, Weak, Yield}
 use Rattle.nmgc_world_spec.specs.{World.Fits, World.HasNumbers, World.HasRegistersBelow, World.words_made, declared.command.Command.Command, declared.command.Operand.Operand, declared.command.Operand.TheVariants.Register, declared.command.Operand.TheVariants.Shared}
 use Rattle.nmgc_io.specs.Text.{is_blank_or_comment, lines_of, spaced, tokens_of}
 use Rattle.nmgc_script.specs.{declared.fault.Cause.Cause, declared.script.Config.Config, declared.script.Script.Script, declared.version.Version.Version}
@@ -59,8 +59,9 @@ pub record FitsConfig (most : ℕ) (c : Config) : Type 0 where
   pub quota : c.quota ≤ most_quota
   pub trigger : c.trigger ≤ most_trigger
 
--- a version of this number has the command: `tag` is new in version 3
+-- a version of this number has the command: `tag` and `rec` are new in version 3
 abbrev pub IsSince : ℕ → Command → Type 0
+IsSince n (Rec dest fields) = 3 ≤ n
 IsSince n (Tag dest object) = 3 ≤ n
 IsSince n _ = Unit {0}
 
@@ -103,6 +104,7 @@ command_words (Mov dest value) = codes "mov" ∷ register_word dest ∷ operand_
 command_words (Con dest tag fields) = codes "con" ∷ register_word dest ∷ decimal tag ∷ map operand_word fields
 command_words (Var dest value) = codes "var" ∷ register_word dest ∷ operand_word value ∷ []
 command_words (Arr dest count value) = codes "arr" ∷ register_word dest ∷ decimal count ∷ operand_word value ∷ []
+command_words (Rec dest fields) = codes "rec" ∷ register_word dest ∷ map operand_word fields
 command_words (Thunk dest free) = codes "thunk" ∷ register_word dest ∷ map operand_word free
 command_words (Weak dest key value finaliser) = codes "weak" ∷ register_word dest ∷ operand_word key ∷ operand_word value ∷ operand_word finaliser ∷ []
 command_words (Stack dest size) = codes "stack" ∷ register_word dest ∷ decimal size ∷ []

@@ -13,6 +13,12 @@ use crate::{Cause, LineFault};
 use nmgc_commands::{Form, PackedCommand};
 use std::alloc::Global;
 
+/// The greatest number of free variables of a thunk.
+const MAX_FREE: usize = 8;
+
+/// The greatest number of fields that a `rec` gives.
+const MAX_FIELDS: usize = 65_535;
+
 /// Returns the command that the tokens of a line spell, for segments of `size` words. `Bad` has the line's first cause.
 #[tactic(auto, unfolding(crate::specs::Reading::command_at))]
 pub fn command(
@@ -56,10 +62,15 @@ fn read_command(
         Verb::Num => made!(version.dest_number(tokens) => Num { dest, number }),
         Verb::Nil => made!(version.dest(tokens) => Nil { dest }),
         Verb::Mov => made!(version.dest_value(tokens) => Mov { dest, value }),
-        Verb::Con => made!(version.dest_tag_values(alloc, tokens) => con(dest, tag, fields)),
+        Verb::Con => made!(version.dest_tag_values(alloc, tokens) => con_of(dest, tag, fields)),
         Verb::Var => made!(version.dest_value(tokens) => Var { dest, value }),
         Verb::Arr => made!(version.dest_count_value(tokens) => Arr { dest, count, value }),
-        Verb::Thunk => made!(version.dest_few_values(alloc, tokens) => thunk(dest, free)),
+        Verb::Rec => {
+            made!(version.dest_values_up_to(alloc, MAX_FIELDS, tokens) => rec_of(dest, fields))
+        }
+        Verb::Thunk => {
+            made!(version.dest_values_up_to(alloc, MAX_FREE, tokens) => thunk_of(dest, free))
+        }
         Verb::Weak => made!(version.dest_values(tokens) => Weak { dest, key, value, finaliser }),
         Verb::Stack => made!(version.dest_count(tokens) => Stack { dest, size }),
         Verb::Get => made!(version.dest_value_index(tokens) => Get { dest, object, index }),

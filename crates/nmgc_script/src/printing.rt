@@ -1,7 +1,7 @@
 //! Printing: the plain spelling of a script.
 //!
 //! It has no line that is passed over, and each line ends with a line feed. So a script has one plain spelling. There is one
-//! space before each token except the first. Easy to get wrong: no space ends the line of a thunk without free variables.
+//! space before each token except the first. Easy to get wrong: no space ends the line of a thunk without free variables, or of a `rec` without fields.
 ghost use Rattle.std.specs.Prelude.{◌≡◌, ◌∷◌, [], ◌++◌, decimal, map, IfOk, OnOk};
 ghost use Rattle.nmgc_commands.specs.Packed.{command_of};
 ghost use Rattle.nmgc_io.specs.{Spaced.after_spaces, Text.ended, Text.spaced};
@@ -176,6 +176,8 @@ fn push_form(out: &mut Vec<u8>, form: &Form) -> Result<(), NoMemory>
         Same { left: Value, right: Value };
         Con as Con { dest: Register, tag: Tag } then fields
         LongCon as Con { dest: Register, tag: Tag } then fields
+        Rec as Rec { dest: Register } then fields
+        LongRec as Rec { dest: Register } then fields
         Thunk as Thunk { dest: Register } then free
         LongThunk as Thunk { dest: Register } then free;
         Yield Collect Full

@@ -4,16 +4,13 @@
 //! methods of `Version`, since the version says which registers a command can name. Each function checks the number of tokens
 //! first, and then each token from left to right. Easy to get wrong: with one token too many or too few, no token is checked.
 ghost use Rattle.std.specs.Prelude.{map};
-ghost use Rattle.nmgc_script.specs.Reading.{Gives, register_at, operand_at, long_at, short_at, one_at, two_at, three_at, four_at, con_at, thunk_at};
+ghost use Rattle.nmgc_script.specs.Reading.{Gives, register_at, operand_at, long_at, short_at, one_at, two_at, three_at, four_at, con_at, values_at};
 
 use crate::version::Version;
 use crate::{Cause, LineFault};
 use nmgc_commands::Operands;
 use nmgc_world_spec::Operand;
 use std::alloc::Global;
-
-/// The greatest number of free variables of a thunk.
-const MAX_FREE: usize = 8;
 
 impl Version {
     /// Reads a token of the shape `D`, and returns the register to be written. Takes no memory.
@@ -186,19 +183,20 @@ impl Version {
         ))
     }
 
-    /// Reads tokens of the shape `D V V ..`, with at most eight `V`. Returns the register to be written, and the operands.
-    #[tactic(auto, unfolding(crate::specs::Reading::thunk_at))]
-    pub fn dest_few_values(
+    /// Reads tokens of the shape `D V V ..`, with at most `most` `V`. Returns the register to be written, and the operands.
+    #[tactic(auto, unfolding(crate::specs::Reading::values_at))]
+    pub fn dest_values_up_to(
         self,
         alloc: Global,
+        most: usize,
         tokens: &[&[u8]],
     ) -> Result<(u8, Operands), LineFault>
-        ensures { Gives result (thunk_at self (map (λ w. w.now) tokens.now)) }
+        ensures { Gives result (values_at self most (map (λ w. w.now) tokens.now)) }
     {
         let [dest, values @ ..] = tokens else {
             return Err(LineFault::Bad(Cause::Arity));
         };
-        if values.len() > MAX_FREE {
+        if values.len() > most {
             return Err(LineFault::Bad(Cause::Arity));
         }
         Ok((self.register(dest)?, self.operands(alloc, values)?))

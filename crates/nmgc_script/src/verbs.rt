@@ -19,6 +19,7 @@ pub enum Verb {
     Con,
     Var,
     Arr,
+    Rec,
     Thunk,
     Weak,
     Stack,
@@ -41,13 +42,14 @@ pub enum Verb {
 }
 
 /// Every verb, in the order in which names are looked up.
-pub const VERBS: [Verb; 25] = [
+pub const VERBS: [Verb; 26] = [
     Verb::Num,
     Verb::Nil,
     Verb::Mov,
     Verb::Con,
     Verb::Var,
     Verb::Arr,
+    Verb::Rec,
     Verb::Thunk,
     Verb::Weak,
     Verb::Stack,
@@ -81,6 +83,7 @@ impl Verb {
             Verb::Con => b"con",
             Verb::Var => b"var",
             Verb::Arr => b"arr",
+            Verb::Rec => b"rec",
             Verb::Thunk => b"thunk",
             Verb::Weak => b"weak",
             Verb::Stack => b"stack",
@@ -120,6 +123,7 @@ fn guess_verb(name: &[u8]) -> Verb {
         [b'm', ..] => Verb::Mov,
         [b'v', ..] => Verb::Var,
         [b'a', ..] => Verb::Arr,
+        [b'r', ..] => Verb::Rec,
         [b't', b'a', ..] => Verb::Tag,
         [b't', ..] => Verb::Thunk,
         [b'w', ..] => Verb::Weak,

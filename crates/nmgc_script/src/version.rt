@@ -69,12 +69,12 @@ impl Version {
         }
     }
 
-    /// Returns whether the version has the verb: `tag` is new in version 3. Takes no memory.
+    /// Returns whether the version has the verb: `tag` and `rec` are new in version 3. Takes no memory.
     pub fn has(self, verb: Verb) -> bool
         ensures { result ≡ has_verb self verb }
     {
         match verb {
-            Verb::Tag => self.number >= 3,
+            Verb::Rec | Verb::Tag => self.number >= 3,
             _ => true,
         }
     }

@@ -1,7 +1,7 @@
 -- Further facts that the judge needs about the tokens of a line.
 use Rattle.std.proofs.{Common.◌≡◌, Common.◌≢◌, Common.◌≤◌, Common.ℕ, Common.List, Common.[], Common.◌∷◌, Common.◌++◌, Common.map, Common.length, Common.arith, Common.inl, Common.inr, lemmas.Bool.Decides.eqb_tells, lemmas.List.length-map}
 use Rattle.std.specs.List.{AllByRecursion}
-use Rattle.nmgc_world_spec.specs.{declared.command.Command.Command, declared.command.Command.TheVariants.Num, declared.command.Command.TheVariants.Nil, declared.command.Command.TheVariants.Mov, declared.command.Command.TheVariants.Con, declared.command.Command.TheVariants.Var, declared.command.Command.TheVariants.Arr, declared.command.Command.TheVariants.Thunk, declared.command.Command.TheVariants.Weak, declared.command.Command.TheVariants.Stack, declared.command.Command.TheVariants.Get, declared.command.Command.TheVariants.Tag, declared.command.Command.TheVariants.Set, declared.command.Command.TheVariants.Cas, declared.command.Command.TheVariants.Update, declared.command.Command.TheVariants.Force, declared.command.Command.TheVariants.Push, declared.command.Command.TheVariants.Pop, declared.command.Command.TheVariants.Deref, declared.command.Command.TheVariants.Finalise, declared.command.Command.TheVariants.NextFin, declared.command.Command.TheVariants.Show, declared.command.Command.TheVariants.Same, declared.command.Command.TheVariants.Yield, declared.command.Command.TheVariants.Collect, declared.command.Command.TheVariants.Full, World.Fits}
+use Rattle.nmgc_world_spec.specs.{declared.command.Command.Command, declared.command.Command.TheVariants.Num, declared.command.Command.TheVariants.Nil, declared.command.Command.TheVariants.Mov, declared.command.Command.TheVariants.Con, declared.command.Command.TheVariants.Var, declared.command.Command.TheVariants.Arr, declared.command.Command.TheVariants.Rec, declared.command.Command.TheVariants.Thunk, declared.command.Command.TheVariants.Weak, declared.command.Command.TheVariants.Stack, declared.command.Command.TheVariants.Get, declared.command.Command.TheVariants.Tag, declared.command.Command.TheVariants.Set, declared.command.Command.TheVariants.Cas, declared.command.Command.TheVariants.Update, declared.command.Command.TheVariants.Force, declared.command.Command.TheVariants.Push, declared.command.Command.TheVariants.Pop, declared.command.Command.TheVariants.Deref, declared.command.Command.TheVariants.Finalise, declared.command.Command.TheVariants.NextFin, declared.command.Command.TheVariants.Show, declared.command.Command.TheVariants.Same, declared.command.Command.TheVariants.Yield, declared.command.Command.TheVariants.Collect, declared.command.Command.TheVariants.Full, World.Fits}
 use Rattle.nmgc_io.specs.Text.{tokens_of, onto_first}
 use Rattle.nmgc_script.specs.{Spelling.operand_word, Spelling.command_words, laws.Lines.IsWord}
 
@@ -31,6 +31,8 @@ command_count size (Con dest tag fields) h le = let n : length (map operand_word
     let few = h.size in omega arith
 command_count size (Var dest value) h le = omega arith
 command_count size (Arr dest count value) h le = omega arith
+command_count size (Rec dest fields) h le = let n : length (map operand_word fields) ≡ length fields = length-map fields operand_word in
+    let few = h.size in omega arith
 command_count size (Thunk dest free) h le = let n : length (map operand_word free) ≡ length free = length-map free operand_word in
     let few = h.size in omega arith
 command_count size (Weak dest key value finaliser) h le = omega arith

@@ -46,6 +46,7 @@ abbrev pub made_by : World → ℕ → Command → Option Node
 made_by w m (command.Con dest tag fields) = Some (Con tag (values_for w m fields))
 made_by w m (command.Var dest v) = Some (Var (value_for w m v))
 made_by w m (command.Arr dest count v) = Some (Arr (replicate count (value_for w m v)))
+made_by w m (command.Rec dest fields) = Some (Arr (values_for w m fields))
 made_by w m (command.Thunk dest free) = Some (Thunk (values_for w m free) None)
 made_by w m (command.Weak dest key v finaliser) = Some (Weak (Some (record {
   key = value_for w m key;

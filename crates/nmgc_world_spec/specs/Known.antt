@@ -83,6 +83,7 @@ abbrev pub IsMaking : Command → Type 0
 IsMaking (command.Con dest tag fields) = Unit {0}
 IsMaking (command.Var dest v) = Unit {0}
 IsMaking (command.Arr dest count v) = Unit {0}
+IsMaking (command.Rec dest fields) = Unit {0}
 IsMaking (command.Thunk dest free) = Unit {0}
 IsMaking (command.Weak dest key v finaliser) = Unit {0}
 IsMaking (command.Stack dest size) = Unit {0}

@@ -73,6 +73,7 @@ HasRegistersBelow b (command.Mov dest value) = (dest < b) × IsOperandBelow b va
 HasRegistersBelow b (command.Con dest tag fields) = (dest < b) × All (IsOperandBelow b) fields
 HasRegistersBelow b (command.Var dest value) = (dest < b) × IsOperandBelow b value
 HasRegistersBelow b (command.Arr dest count value) = (dest < b) × IsOperandBelow b value
+HasRegistersBelow b (command.Rec dest fields) = (dest < b) × All (IsOperandBelow b) fields
 HasRegistersBelow b (command.Thunk dest free) = (dest < b) × All (IsOperandBelow b) free
 HasRegistersBelow b (command.Weak dest key value finaliser) = (dest < b) × IsOperandBelow b key × IsOperandBelow b value × IsOperandBelow b finaliser
 HasRegistersBelow b (command.Stack dest size) = dest < b
@@ -96,6 +97,7 @@ abbrev pub HasNumbers : Command → Type 0
 HasNumbers (command.Num dest number) = number < 2 ^ 62
 HasNumbers (command.Con dest tag fields) = tag < 256
 HasNumbers (command.Arr dest count value) = count < 65536
+HasNumbers (command.Rec dest fields) = length fields < 65536
 HasNumbers (command.Thunk dest free) = length free ≤ 8
 HasNumbers (command.Stack dest size) = size < 65536
 HasNumbers (command.Get dest object index) = index < 65536
@@ -108,6 +110,7 @@ abbrev pub words_made : Command → ℕ
 words_made (command.Con dest tag fields) = 2 + length fields
 words_made (command.Var dest value) = 3
 words_made (command.Arr dest count value) = 2 + count
+words_made (command.Rec dest fields) = 2 + length fields
 words_made (command.Thunk dest free) = 3 + length free
 words_made (command.Weak dest key value finaliser) = 5
 words_made (command.Stack dest size) = 2 + size
@@ -292,6 +295,7 @@ step w m (command.Mov dest v) = (with_register w m dest (value_for w m v), Fine)
 step w m (command.Con dest tag fields) = born w m dest (Con tag (map (value_of (state_of w m).registers) fields))
 step w m (command.Var dest v) = born w m dest (Var (value_for w m v))
 step w m (command.Arr dest count v) = born w m dest (Arr (replicate count (value_for w m v)))
+step w m (command.Rec dest fields) = born w m dest (Arr (map (value_of (state_of w m).registers) fields))
 step w m (command.Thunk dest free) = born w m dest (Thunk (map (value_of (state_of w m).registers) free) None)
 step w m (command.Weak dest key v finaliser) =
     born w m dest (Weak (Some (record { key = value_for w m key; value = value_for w m v; finaliser = value_for w m finaliser })))

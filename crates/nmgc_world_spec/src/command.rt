@@ -45,6 +45,11 @@ pub enum Command {
         count: u32,
         value: Operand,
     },
+    /// Makes an array of these values.
+    Rec {
+        dest: u8,
+        fields: List<Operand>,
+    },
     /// Makes a thunk without a result.
     Thunk {
         dest: u8,
@@ -155,6 +160,7 @@ impl Drop for Command {
                 count: _,
                 value: _,
             } => {}
+            Command::Rec { dest: _, fields } => drop(fields),
             Command::Thunk { dest: _, free } => drop(free),
             Command::Weak {
                 dest: _,
@@ -213,6 +219,7 @@ impl Command {
             Command::Con { fields, .. } => 2 + fields.items().len(),
             Command::Var { .. } => 3,
             Command::Arr { count, .. } => 2 + *count as usize,
+            Command::Rec { fields, .. } => 2 + fields.items().len(),
             Command::Thunk { free, .. } => 3 + free.items().len(),
             Command::Weak { .. } => 5,
             Command::Stack { size, .. } => 2 + *size as usize,

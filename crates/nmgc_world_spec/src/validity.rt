@@ -19,6 +19,7 @@ impl Command {
             | Command::Var { dest, value }
             | Command::Arr { dest, value, .. } => is_register(*dest) && is_valid(*value),
             Command::Con { dest, fields, .. } => is_register(*dest) && are_valid(fields.items()),
+            Command::Rec { dest, fields } => is_register(*dest) && are_valid(fields.items()),
             Command::Thunk { dest, free } => is_register(*dest) && are_valid(free.items()),
             Command::Weak {
                 dest,

@@ -3,7 +3,7 @@ use Rattle.std.proofs.Common.{◌≡◌, ℕ, List, [], ◌∷◌, zero, suc, ma
 use Rattle.std.specs.Prelude.{slice_get, slice_set}
 use Rattle.nmgc_limits.specs.declared.mutators.TheConstants.{SHARED_MAKER}
 use Rattle.nmgc_world_spec.specs.{declared.command.Operand.Operand, declared.command.Command.Command, declared.command.Reply.Reply, declared.change.Change.Change, declared.value.Name.Name, declared.value.Value.Value, declared.node.Node.Node, declared.mutator_state.MutatorState.MutatorState, World.World, World.state_of, World.node_of, World.changed, World.field_read, World.tag_read, World.result_read, World.value_read, World.value_of, World.value_for, World.with_state, World.with_node, World.keeping, World.object_of, World.change_object, World.change_into, World.next_name, World.step, Pieces.given_or, Reach.opened_by, Reach.finalised_by, Reach.from_alive, Reach.name_in, Pieces.opened_in, Pieces.finalised_in}
-use Rattle.nmgc_world_spec.specs.declared.command.Command.TheVariants.{Num, Nil, Mov, Con, Var, Arr, Thunk, Weak, Stack, Get, Tag, Set, Cas, Update, Force, Push, Pop, Deref, Finalise, NextFin, Show, Same, Yield, Collect, Full}
+use Rattle.nmgc_world_spec.specs.declared.command.Command.TheVariants.{Num, Nil, Mov, Con, Var, Arr, Rec, Thunk, Weak, Stack, Get, Tag, Set, Cas, Update, Force, Push, Pop, Deref, Finalise, NextFin, Show, Same, Yield, Collect, Full}
 use Rattle.nmgc_world_spec.specs.declared.command.Reply.TheVariants as reply
 use Rattle.nmgc_world_spec.specs.declared.change.Change.TheVariants as change
 use Rattle.nmgc_world_spec.specs.declared.value.Value.TheVariants as value
@@ -108,6 +108,8 @@ module _ (shown : ℕ → Bool) where
     same_step w (Var dest v) = own w (λ (q : MutatorState). with_new q m dest (node.Var (value_of q.registers v))) (λ (q : MutatorState).
         reply.Given (value.Ref (next_name q m)))
     same_step w (Arr dest count v) = own w (λ (q : MutatorState). with_new q m dest (node.Arr (Rattle.std.specs.Prelude.replicate count (value_of q.registers v)))) (λ (q : MutatorState).
+        reply.Given (value.Ref (next_name q m)))
+    same_step w (Rec dest fields) = own w (λ (q : MutatorState). with_new q m dest (node.Arr (map (value_of q.registers) fields))) (λ (q : MutatorState).
         reply.Given (value.Ref (next_name q m)))
     same_step w (Thunk dest free) = own w (λ (q : MutatorState). with_new q m dest (node.Thunk (map (value_of q.registers) free) None)) (λ (q : MutatorState).
         reply.Given (value.Ref (next_name q m)))

@@ -110,6 +110,7 @@ made_none : (w : World) (k : ℕ) (c : Command) (size : ℕ) (values : List Valu
 made_none w k (command.Con dest tag fields) size values l e = let is : kind.Con ≡ kind.Stack = ap kind_of (same_Some _ (Stack size values) e) in cc
 made_none w k (command.Var dest v) size values l e = let is : kind.Var ≡ kind.Stack = ap kind_of (same_Some _ (Stack size values) e) in cc
 made_none w k (command.Arr dest count v) size values l e = let is : kind.Arr ≡ kind.Stack = ap kind_of (same_Some _ (Stack size values) e) in cc
+made_none w k (command.Rec dest fields) size values l e = let is : kind.Arr ≡ kind.Stack = ap kind_of (same_Some _ (Stack size values) e) in cc
 made_none w k (command.Thunk dest free) size values l e = let is : kind.Thunk ≡ kind.Stack = ap kind_of (same_Some _ (Stack size values) e) in cc
 made_none w k (command.Weak dest key v finaliser) size values l e = let is : kind.Weak ≡ kind.Stack = ap kind_of (same_Some _ (Stack size values) e) in cc
 made_none w k (command.Stack dest n) size values l e = l
@@ -126,6 +127,7 @@ same_stacks h (command.Mov dest v) a l = refl
 same_stacks h (command.Con dest tag fields) a l = taking_stacks (record h { serial = h.serial + 1 }) dest a
 same_stacks h (command.Var dest v) a l = taking_stacks (record h { serial = h.serial + 1 }) dest a
 same_stacks h (command.Arr dest count v) a l = taking_stacks (record h { serial = h.serial + 1 }) dest a
+same_stacks h (command.Rec dest fields) a l = taking_stacks (record h { serial = h.serial + 1 }) dest a
 same_stacks h (command.Thunk dest free) a l = taking_stacks (record h { serial = h.serial + 1 }) dest a
 same_stacks h (command.Weak dest key v finaliser) a l = taking_stacks (record h { serial = h.serial + 1 }) dest a
 same_stacks h (command.Stack dest size) a l = absurd l

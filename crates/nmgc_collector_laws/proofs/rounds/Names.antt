@@ -1,6 +1,6 @@
 -- The names that commands of a mutator give: one after another, from its next serial on.
 use Rattle.nmgc_collector_laws.proofs.Vocabulary.{◌≡◌, ◌≢◌, ◌⊎◌, inl, inr, ℕ, ◌+◌, ◌<◌, ◌≤◌, List, [], ◌∷◌, length, refl, sym, ap, subst, ◌∙◌, arith, Some, None, length-append, length-set, cases_eq, eqb_tells, SHARED_MAKER, Name, Node, MutatorState, Command, Reply, Given, World, state_of, node_of, serial_of, IsMaking, words_made, changed, with_state, with_new, with_nth, with_node, born, step, made_by, state_same, state_other, maker_there, Any, stepped, still_there, State, after_command, after_scan, Happening, did, scanned, replay, IsLegal, done_by, Done, world_scanned}
-use Rattle.nmgc_world_spec.specs.declared.command.Command.TheVariants.{Con, Var, Arr, Thunk, Weak, Stack}
+use Rattle.nmgc_world_spec.specs.declared.command.Command.TheVariants.{Con, Var, Arr, Rec, Thunk, Weak, Stack}
 use Rattle.nmgc_world_laws.specs.laws.Steps.{Hand, Object}
 use Rattle.nmgc_world_spec.specs.declared.value.Value.TheVariants as value
 
@@ -9,6 +9,7 @@ abbrev pub made_count : Command → ℕ
 made_count (Con dest tag fields) = 1
 made_count (Var dest v) = 1
 made_count (Arr dest count v) = 1
+made_count (Rec dest fields) = 1
 made_count (Thunk dest free) = 1
 made_count (Weak dest key v finaliser) = 1
 made_count (Stack dest size) = 1
@@ -24,6 +25,7 @@ pub makes_or_not : (c : Command) → (IsMaking c × (made_count c ≡ 1) × (2 �
 makes_or_not (Con dest tag fields) = inl (tt, refl, omega arith)
 makes_or_not (Var dest v) = inl (tt, refl, omega arith)
 makes_or_not (Arr dest count v) = inl (tt, refl, omega arith)
+makes_or_not (Rec dest fields) = inl (tt, refl, omega arith)
 makes_or_not (Thunk dest free) = inl (tt, refl, omega arith)
 makes_or_not (Weak dest key v finaliser) = inl (tt, refl, omega arith)
 makes_or_not (Stack dest size) = inl (tt, refl, omega arith)
@@ -93,6 +95,7 @@ pub names : (w : World) (m : ℕ) (c : Command) → m < length w.mutators → Na
 names w m (Con dest tag fields) lt = born_names w m dest _ (Con dest tag fields) lt refl
 names w m (Var dest v) lt = born_names w m dest _ (Var dest v) lt refl
 names w m (Arr dest count v) lt = born_names w m dest _ (Arr dest count v) lt refl
+names w m (Rec dest fields) lt = born_names w m dest _ (Rec dest fields) lt refl
 names w m (Thunk dest free) lt = born_names w m dest _ (Thunk dest free) lt refl
 names w m (Weak dest key v finaliser) lt = born_names w m dest _ (Weak dest key v finaliser) lt refl
 names w m (Stack dest size) lt = born_names w m dest _ (Stack dest size) lt refl

@@ -1,6 +1,6 @@
 -- A mutator's registers after a row mean its registers in the world after the command.
 use Rattle.nmgc_collector_laws.proofs.Vocabulary.{◌≡◌, ℕ, zero, suc, ◌+◌, ◌*◌, ◌<◌, List, [], ◌∷◌, length, get_or, set, refl, sym, ap, subst, ◌∙◌, Option, Some, None, inl, inr, set_past, cases_lt, cases_eq, eqb_tells, SHARED_MAKER, Name, Value, Node, MutatorState, Change, Operand, Register, Shared, Command, Num, Mov, Get, Tag, Set, Cas, Update, Force, Push, Pop, Deref, Finalise, NextFin, Show, Same, Yield, Collect, Full, Reply, Given, Fine, Nothing, World, state_of, node_of, given, slice_get, drop, same_Some, given_or, changed, shared_name, value_of, value_for, with_state, with_register, with_nth, with_node, keeping, with_finaliser, holding_given, next_name, born, change_node, change_object, change_into, step, SHARED_PLACE, NIL_WORD, ZERO_WORD, state_same, state_other, Place, Means, ListMeans, Answer, plain, word, Hand, word_of, taking, bearing, stacking, pushed, popped, leaves, Answers, count_changed}
-use Rattle.nmgc_world_spec.specs.declared.command.Command.TheVariants.{Nil, Con, Var, Arr, Thunk, Weak, Stack}
+use Rattle.nmgc_world_spec.specs.declared.command.Command.TheVariants.{Nil, Con, Var, Arr, Rec, Thunk, Weak, Stack}
 use Rattle.nmgc_world_spec.specs.declared.value.Value.TheVariants as value
 use Rattle.nmgc_world_spec.specs.declared.change.Change.TheVariants as change
 
@@ -130,6 +130,7 @@ module _ (P : Place → Type 0) where
     registers_left g (Con dest tag fields) a e p = birth w m lt h means dest _ a e p
     registers_left g (Var dest v) a e p = birth w m lt h means dest _ a e p
     registers_left g (Arr dest count v) a e p = birth w m lt h means dest _ a e p
+    registers_left g (Rec dest fields) a e p = birth w m lt h means dest _ a e p
     registers_left g (Thunk dest free) a e p = birth w m lt h means dest _ a e p
     registers_left g (Weak dest key v finaliser) a e p = birth w m lt h means dest _ a e p
     registers_left g (Stack dest size) a e p = subst (λ (l : List ℕ).

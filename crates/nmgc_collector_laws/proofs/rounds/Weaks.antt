@@ -20,6 +20,7 @@ is_weak : (w : World) (m : ℕ) (c : Command) (made : Node) → made_by w m c �
 is_weak w m (command.Con dest tag fields) made e k = absurd (let is : kind.Con ≡ kind.Weak = ap kind_of (same_Some _ made e) ∙ k in cc)
 is_weak w m (command.Var dest v) made e k = absurd (let is : kind.Var ≡ kind.Weak = ap kind_of (same_Some _ made e) ∙ k in cc)
 is_weak w m (command.Arr dest count v) made e k = absurd (let is : kind.Arr ≡ kind.Weak = ap kind_of (same_Some _ made e) ∙ k in cc)
+is_weak w m (command.Rec dest fields) made e k = absurd (let is : kind.Arr ≡ kind.Weak = ap kind_of (same_Some _ made e) ∙ k in cc)
 is_weak w m (command.Thunk dest free) made e k = absurd (let is : kind.Thunk ≡ kind.Weak = ap kind_of (same_Some _ made e) ∙ k in cc)
 is_weak w m (command.Weak dest key v finaliser) made e k = record { dest = dest; key = key; v = v; finaliser = finaliser; is = refl }
 is_weak w m (command.Stack dest size) made e k = absurd (let is : kind.Stack ≡ kind.Weak = ap kind_of (same_Some _ made e) ∙ k in cc)

@@ -1,7 +1,7 @@
 -- A line of tokens, and the tokens of a line: a spelling is read back.
 use Rattle.std.proofs.{Common.◌≡◌, Common.◌≢◌, Common.◌<◌, Common.◌≤◌, Common.◌+◌, Common.◌*◌, Common.◌^◌, Common.◌%◌, Common.ℕ, Common.List, Common.[], Common.◌∷◌, Common.◌++◌, Common.map, Common.length, Common.refl, Common.ap, Common.arith, Common.Bool, Common.true, Common.false, Common.cond, Common.leb, Common.decimal, Common.codes, Common.lit<, lemmas.Bool.ne_eqb, lemmas.Bool.leb-true, lemmas.Fmt.decimal_by_steps, lemmas.Fmt.length-decimal-le, lemmas.Fmt.decimal_digit, lemmas.List.length-append, lemmas.List.Elements.recursion_from_All}
 use Rattle.std.specs.List.{AllByRecursion}
-use Rattle.nmgc_world_spec.specs.{declared.command.Operand.Operand, declared.command.Operand.TheVariants.Register, declared.command.Operand.TheVariants.Shared, declared.command.Command.Command, declared.command.Command.TheVariants.Num, declared.command.Command.TheVariants.Nil, declared.command.Command.TheVariants.Mov, declared.command.Command.TheVariants.Con, declared.command.Command.TheVariants.Var, declared.command.Command.TheVariants.Arr, declared.command.Command.TheVariants.Thunk, declared.command.Command.TheVariants.Weak, declared.command.Command.TheVariants.Stack, declared.command.Command.TheVariants.Get, declared.command.Command.TheVariants.Tag, declared.command.Command.TheVariants.Set, declared.command.Command.TheVariants.Cas, declared.command.Command.TheVariants.Update, declared.command.Command.TheVariants.Force, declared.command.Command.TheVariants.Push, declared.command.Command.TheVariants.Pop, declared.command.Command.TheVariants.Deref, declared.command.Command.TheVariants.Finalise, declared.command.Command.TheVariants.NextFin, declared.command.Command.TheVariants.Show, declared.command.Command.TheVariants.Same, declared.command.Command.TheVariants.Yield, declared.command.Command.TheVariants.Collect, declared.command.Command.TheVariants.Full, Known.IsRegister, Known.IsOperand, World.Fits}
+use Rattle.nmgc_world_spec.specs.{declared.command.Operand.Operand, declared.command.Operand.TheVariants.Register, declared.command.Operand.TheVariants.Shared, declared.command.Command.Command, declared.command.Command.TheVariants.Num, declared.command.Command.TheVariants.Nil, declared.command.Command.TheVariants.Mov, declared.command.Command.TheVariants.Con, declared.command.Command.TheVariants.Var, declared.command.Command.TheVariants.Arr, declared.command.Command.TheVariants.Rec, declared.command.Command.TheVariants.Thunk, declared.command.Command.TheVariants.Weak, declared.command.Command.TheVariants.Stack, declared.command.Command.TheVariants.Get, declared.command.Command.TheVariants.Tag, declared.command.Command.TheVariants.Set, declared.command.Command.TheVariants.Cas, declared.command.Command.TheVariants.Update, declared.command.Command.TheVariants.Force, declared.command.Command.TheVariants.Push, declared.command.Command.TheVariants.Pop, declared.command.Command.TheVariants.Deref, declared.command.Command.TheVariants.Finalise, declared.command.Command.TheVariants.NextFin, declared.command.Command.TheVariants.Show, declared.command.Command.TheVariants.Same, declared.command.Command.TheVariants.Yield, declared.command.Command.TheVariants.Collect, declared.command.Command.TheVariants.Full, Known.IsRegister, Known.IsOperand, World.Fits}
 use Rattle.nmgc_io.specs.{Text.tokens_of, Text.is_blank_or_comment, laws.Parts.cut_on, laws.Parts.tokens_cut, laws.Parts.last_token, Text.spaced, Spaced.after_spaces, laws.Parts.spaced_after}
 use Rattle.nmgc_script.specs.{Spelling.operand_word, Spelling.register_word, Spelling.command_words, Spelling.heap_words, Spelling.FitsConfig, Parts.section_words, Parts.version_words, declared.script.Config.Config}
 use Rattle.nmgc_lists.specs.laws.Truths.{cond_true}
@@ -153,6 +153,10 @@ command_line size (Var dest value) h = (small (codes "var") refl refl, (register
 command_line size (Arr dest count value) h = (
   small (codes "arr") refl refl,
   (register_small dest h.registers.0, (decimal_small count (omega (arith, h.numbers)), (operand_small value h.registers.1, tt))),
+)
+command_line size (Rec dest fields) h = (
+  small (codes "rec") refl refl,
+  (register_small dest h.registers.0, operands_small fields (recursion_from_All IsOperand fields h.registers.1)),
 )
 command_line size (Thunk dest free) h = (
   small (codes "thunk") refl refl,

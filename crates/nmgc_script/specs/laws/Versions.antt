@@ -3,7 +3,7 @@ use Rattle.std.proofs.{Common.◌≡◌, Common.◌≤◌, Common.ℕ, Common.Li
 use Rattle.std.specs.{Prelude.All, Prelude.Bool, Prelude.true, Prelude.false, Prelude.[], Prelude.◌∷◌, Prelude.codes, Prelude.◌==◌, Prelude.if◌then◌else◌, Str.bytes_eq}
 use lib.Count.{ones}
 use Rattle.nmgc_limits.specs.{Limits.most_heap_words, Limits.most_script_bytes, Limits.most_segments, declared.mutators.TheConstants.REGISTERS, declared.mutators.TheConstants.MAKERS}
-use Rattle.nmgc_world_spec.specs.{declared.command.Operand.Operand, declared.command.Operand.TheVariants.Register, declared.command.Operand.TheVariants.Shared, declared.command.Command.Command, declared.command.Command.TheVariants.Num, declared.command.Command.TheVariants.Nil, declared.command.Command.TheVariants.Mov, declared.command.Command.TheVariants.Con, declared.command.Command.TheVariants.Var, declared.command.Command.TheVariants.Arr, declared.command.Command.TheVariants.Thunk, declared.command.Command.TheVariants.Weak, declared.command.Command.TheVariants.Stack, declared.command.Command.TheVariants.Get, declared.command.Command.TheVariants.Tag, declared.command.Command.TheVariants.Set, declared.command.Command.TheVariants.Cas, declared.command.Command.TheVariants.Update, declared.command.Command.TheVariants.Force, declared.command.Command.TheVariants.Push, declared.command.Command.TheVariants.Pop, declared.command.Command.TheVariants.Deref, declared.command.Command.TheVariants.Finalise, declared.command.Command.TheVariants.NextFin, declared.command.Command.TheVariants.Show, declared.command.Command.TheVariants.Same, declared.command.Command.TheVariants.Yield, declared.command.Command.TheVariants.Collect, declared.command.Command.TheVariants.Full, Known.IsOperand, World.IsOperandBelow, World.HasRegistersBelow, World.Fits, Known.HasRegisters}
+use Rattle.nmgc_world_spec.specs.{declared.command.Operand.Operand, declared.command.Operand.TheVariants.Register, declared.command.Operand.TheVariants.Shared, declared.command.Command.Command, declared.command.Command.TheVariants.Num, declared.command.Command.TheVariants.Nil, declared.command.Command.TheVariants.Mov, declared.command.Command.TheVariants.Con, declared.command.Command.TheVariants.Var, declared.command.Command.TheVariants.Arr, declared.command.Command.TheVariants.Rec, declared.command.Command.TheVariants.Thunk, declared.command.Command.TheVariants.Weak, declared.command.Command.TheVariants.Stack, declared.command.Command.TheVariants.Get, declared.command.Command.TheVariants.Tag, declared.command.Command.TheVariants.Set, declared.command.Command.TheVariants.Cas, declared.command.Command.TheVariants.Update, declared.command.Command.TheVariants.Force, declared.command.Command.TheVariants.Push, declared.command.Command.TheVariants.Pop, declared.command.Command.TheVariants.Deref, declared.command.Command.TheVariants.Finalise, declared.command.Command.TheVariants.NextFin, declared.command.Command.TheVariants.Show, declared.command.Command.TheVariants.Same, declared.command.Command.TheVariants.Yield, declared.command.Command.TheVariants.Collect, declared.command.Command.TheVariants.Full, Known.IsOperand, World.IsOperandBelow, World.HasRegistersBelow, Known.HasRegisters}
 use Rattle.nmgc_script.specs.{declared.script.Script.Script, declared.version.Version.Version, Spelling.FitsConfig, Spelling.FitsScript, Spelling.IsOf, Spelling.IsSince, Spelling.IsVersion, Spelling.lines_bytes, Spelling.upgraded, Spelling.version_1, Spelling.version_2, Spelling.version_3, Spelling.version_of, Parts.bench_config, Parts.total_words}
 
 -- the version names at least one register and one thread, and only registers and threads that exist; its heap is no larger
@@ -53,6 +53,7 @@ module _ (b : ℕ) (le : b ≤ REGISTERS) where
   registers_wider (Con dest tag fields) h = (omega (arith, h.0, le), operands_wider fields h.1)
   registers_wider (Var dest value) h = (omega (arith, h.0, le), operand_wider value h.1)
   registers_wider (Arr dest count value) h = (omega (arith, h.0, le), operand_wider value h.1)
+  registers_wider (Rec dest fields) h = (omega (arith, h.0, le), operands_wider fields h.1)
   registers_wider (Thunk dest free) h = (omega (arith, h.0, le), operands_wider free h.1)
   registers_wider (Weak dest key value finaliser) h = (omega (arith, h.0, le), operand_wider key h.1, operand_wider value h.2, operand_wider finaliser h.3)
   registers_wider (Stack dest size) h = omega (arith, h, le)
@@ -106,10 +107,12 @@ bench_sizes_fit = record {
 
 -- a command of version 1 is one of version 2, and each command is one of version 3
 since_first : (c : Command) → IsSince 1 c → IsSince 2 c
+since_first (Rec dest fields) s = absurd (omega (arith, s))
 since_first (Tag dest object) s = absurd (omega (arith, s))
 since_first _ s = tt
 
 pub since_last : (c : Command) → IsSince 3 c
+since_last (Rec dest fields) = lit≤ tt
 since_last (Tag dest object) = lit≤ tt
 since_last _ = tt
 

@@ -149,6 +149,7 @@ module _ (P : Name → Type 0) (w : World) where
     step_turns (command.Con dest tag fields) name = born_turn m dest _ lt own (operands_have P (state_of w m).registers fields g held) name
     step_turns (command.Var dest v) name = born_turn m dest _ lt own (All-cons (Names P) (value_for w m v) [] (has v) (All-nil (Names P))) name
     step_turns (command.Arr dest count v) name = born_turn m dest _ lt own (All-replicate (Names P) count (value_for w m v) (has v)) name
+    step_turns (command.Rec dest fields) name = born_turn m dest _ lt own (operands_have P (state_of w m).registers fields g held) name
     step_turns (command.Thunk dest free) name = born_turn m dest _ lt own (operands_have P (state_of w m).registers free g held) name
     step_turns (command.Weak dest key v finaliser) name = born_turn m dest _ lt own (All-nil (Names P)) name
     step_turns (command.Stack dest size) name = born_turn m dest _ lt own (All-nil (Names P)) name

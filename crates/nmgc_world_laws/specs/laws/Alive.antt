@@ -51,6 +51,7 @@ module _ (R : Name → Parts → Type 0) where
     made_weak (command.Con dest tag fields) = tt
     made_weak (command.Var dest v) = tt
     made_weak (command.Arr dest count v) = tt
+    made_weak (command.Rec dest fields) = tt
     made_weak (command.Thunk dest free) = tt
     made_weak (command.Stack dest size) = tt
     made_weak _ = tt

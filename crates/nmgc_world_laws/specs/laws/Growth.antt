@@ -1,7 +1,7 @@
 -- A command leaves every name in the map, and lets no serial fall.
 use Rattle.std.specs.Prelude.{◌≡◌, ◌<◌, ◌≤◌, ◌+◌, ◌∷◌, ◌++◌}
 use Rattle.nmgc_world_laws.specs.laws.Vocabulary.{◌∙◌, ℕ, [], length, refl, sym, ap, subst, arith, inl, inr, length-append, Option, Some, None, Result, Ok, Err, IsSome, IfOk, OnErr, get_or-set_same, get_or-set_other, set_past, cases_lt, eqb_tells, NoMemory, Command, Num, Mov, Get, Tag, Set, Cas, Update, Force, Push, Pop, Deref, Finalise, NextFin, Show, Same, Yield, Collect, Full, Reply, Change, SHARED_MAKER, Name, Value, Node, MutatorState, World, state_of, node_of, serial_of, no_mutator, Grows, changed, with_state, with_new, with_nth, with_node, holding_given, keeping, born, change_node, change_object, change_asked, change_into, value_for, step, is_some_get, get_is_some, length-set}
-use Rattle.nmgc_world_spec.specs.declared.command.Command.TheVariants.{Nil, Con, Var, Arr, Thunk, Weak, Stack}
+use Rattle.nmgc_world_spec.specs.declared.command.Command.TheVariants.{Nil, Con, Var, Arr, Rec, Thunk, Weak, Stack}
 use Rattle.nmgc_world_spec.specs.declared.command.Reply.TheVariants as reply
 use Rattle.nmgc_world_spec.specs.declared.change.Change.TheVariants as change
 use Rattle.nmgc_world_spec.specs.declared.value.Value.TheVariants as value
@@ -124,6 +124,7 @@ step_grows w m (Mov dest v) lt = same_grows w _ m (state_same w m _ refl)
 step_grows w m (Con dest tag fields) lt = born_grows w m dest _ lt
 step_grows w m (Var dest v) lt = born_grows w m dest _ lt
 step_grows w m (Arr dest count v) lt = born_grows w m dest _ lt
+step_grows w m (Rec dest fields) lt = born_grows w m dest _ lt
 step_grows w m (Thunk dest free) lt = born_grows w m dest _ lt
 step_grows w m (Weak dest key v finaliser) lt = born_grows w m dest _ lt
 step_grows w m (Stack dest size) lt = born_grows w m dest _ lt

@@ -47,6 +47,11 @@ module _ (words : ℕ) (w : World) (m : ℕ) (h : IsWithin words w) where
       let low : count < 65536 = f.numbers in
       let few : 2 + count ≤ words = f.size in
       (All-replicate IsSmall count (value_for w m v) (small v), omega (arith, many, low), omega (arith, many, few))
+  made_fits (command.Rec dest fields) f =
+      let count : length (map (value_of (state_of w m).registers) fields) ≡ length fields = length-map fields (value_of (state_of w m).registers) in
+      let low : length fields < 65536 = f.numbers in
+      let few : 2 + length fields ≤ words = f.size in
+      (operands_held IsSmall (state_of w m).registers fields tt tt (h.registers m), omega (arith, count, low), omega (arith, count, few))
   made_fits (command.Thunk dest free) f =
       let count : length (map (value_of (state_of w m).registers) free) ≡ length free = length-map free (value_of (state_of w m).registers) in
       let low : length free ≤ 8 = f.numbers in

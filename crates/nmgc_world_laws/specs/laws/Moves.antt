@@ -1,7 +1,7 @@
 -- The changes that a command may make, for every command at once. P is the set of names that a mutator may get.
 use Rattle.std.specs.Prelude.{◌≡◌, ◌≢◌, ◌<◌, ◌∷◌, ◌⊎◌}
 use Rattle.nmgc_world_laws.specs.laws.Vocabulary.{ℕ, List, [], map, drop, length, set, refl, sym, ap, subst, ◌∙◌, length-set, Option, Some, None, inl, inr, slice_get, IsSome, IfSome, All, Contains, get_or_past, All-cons, All-nil, All-set, All-drop, All-replicate, All-get_or, cases_lt, Operand, Register, Shared, Command, Num, Mov, Get, Tag, Set, Cas, Update, Force, Push, Pop, Deref, Finalise, NextFin, Show, Same, Yield, Collect, Full, Reply, Change, SHARED_MAKER, Name, Value, Node, MutatorState, World, state_of, node_of, given, changed, field_read, tag_read, result_read, shared_name, value_of, value_for, with_state, with_register, with_new, with_node, with_finaliser, holding_given, next_name, keeping, born, object_of, read_object, change_node, change_object, change_into, step, item_has, at_some, nothing_in, owed_at, owed_of, values_owed, Names, Fields, CoversReach, HasStrongField, StillThere, strong_at, IsLater}
-use Rattle.nmgc_world_spec.specs.declared.command.Command.TheVariants.{Nil, Con, Var, Arr, Thunk, Weak, Stack}
+use Rattle.nmgc_world_spec.specs.declared.command.Command.TheVariants.{Nil, Con, Var, Arr, Rec, Thunk, Weak, Stack}
 use Rattle.nmgc_world_spec.specs.declared.command.Reply.TheVariants as reply
 use Rattle.nmgc_world_spec.specs.declared.change.Change.TheVariants as change
 use Rattle.nmgc_world_spec.specs.declared.value.Value.TheVariants as value
@@ -261,6 +261,7 @@ module _ (P : Name → Type 0) where
       born_moves w m dest _ lt own h p (All-cons (Names P) (value_for w m v) [] (operand_has (state_of w m).registers v g (h.registers m)) (All-nil (Names P)))
   step_moves w m (Arr dest count v) s lt own g p h =
       born_moves w m dest _ lt own h p (All-replicate (Names P) count (value_for w m v) (operand_has (state_of w m).registers v g (h.registers m)))
+  step_moves w m (Rec dest fields) s lt own g p h = born_moves w m dest _ lt own h p (operands_have (state_of w m).registers fields g (h.registers m))
   step_moves w m (Thunk dest free) s lt own g p h = born_moves w m dest _ lt own h p (operands_have (state_of w m).registers free g (h.registers m))
   step_moves w m (Weak dest key v finaliser) s lt own g p h = absurd s
   step_moves w m (Stack dest size) s lt own g p h = born_moves w m dest _ lt own h p (All-nil (Names P))

@@ -276,6 +276,7 @@ module _ (Q : Value → Type 0) where
   step_is w m (command.Con dest tag fields) h b = born_steps w m _ h dest _ refl
   step_is w m (command.Var dest v) h b = born_steps w m _ h dest _ refl
   step_is w m (command.Arr dest count v) h b = born_steps w m _ h dest _ refl
+  step_is w m (command.Rec dest fields) h b = born_steps w m _ h dest _ refl
   step_is w m (command.Thunk dest free) h b = born_steps w m _ h dest _ refl
   step_is w m (command.Weak dest key v finaliser) h b = born_steps w m _ h dest _ refl
   step_is w m (command.Stack dest size) h b = born_steps w m _ h dest _ refl

@@ -83,6 +83,11 @@ step_keeps_world w m (command.Arr dest count v) h can = born_keeps w m dest _ h 
       All-replicate (IsKnown w) count (value_for w m v) (operand_known w m h can.mutator v can.registers.1);
   sized = tt;
 })
+step_keeps_world w m (command.Rec dest fields) h can = born_keeps w m dest _ h can.mutator can.serial (record {
+  known =
+      operands_known w m h can.mutator fields can.registers.1;
+  sized = tt;
+})
 step_keeps_world w m (command.Thunk dest free) h can = born_keeps w m dest _ h can.mutator can.serial (record {
   known =
       operands_known w m h can.mutator free can.registers.1;
