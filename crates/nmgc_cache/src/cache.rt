@@ -9,29 +9,29 @@ ghost use Rattle.nmgc_world_spec.specs.World.{Fits};
 
 use crate::known::Known;
 use crate::load::{Load, Operation, SCANNED};
-use crate::sizes::{Sizes, field_of, index_of, ring_of};
+use crate::sizes::{Sizes, field_of, index_of, ring_of, shard_of};
 use crate::stamp::Stamp;
 use crate::tables::{NIL, Setting};
 use crate::turns::Turns;
-use nmgc_commands::PackedCommand;
+use nmgc_commands::registers::{R16, R17, R18, R19, R20, R21, R22};
+use nmgc_commands::{Number, PackedCommand, Register};
 use nmgc_decider::Decider;
-use nmgc_decider::commands::{cas, deref, full, get, nextfin, nil, num, pair, set, weak};
 use nmgc_world_spec::{Reply, Value};
 
 // The registers above the registers of arrays.
-const OLD: u8 = 16;
+const OLD: Register = R16;
 
-const VALUE: u8 = 17;
+const VALUE: Register = R17;
 
-const NUMBER: u8 = 18;
+const NUMBER: Register = R18;
 
-const NEW: u8 = 19;
+const NEW: Register = R19;
 
-const WEAK: u8 = 20;
+const WEAK: Register = R20;
 
-const COUNT: u8 = 21;
+const COUNT: Register = R21;
 
-const RAISED: u8 = 22;
+const RAISED: Register = R22;
 
 // The finalisers are asked for once in this number of values made.
 const VALUES_A_DRAIN: u64 = 16;
@@ -201,7 +201,10 @@ impl Cache {
         ensures { IfSome result (Fits most_segment_words) }
     {
         self.key = key;
-        self.go(Step::ReadWeak, get(OLD, index_of(key), field_of(key)))
+        self.go(
+            Step::ReadWeak,
+            PackedCommand::get(OLD, index_of(key), field_of(key)),
+        )
     }
 
     // Begins to make a value.
@@ -210,7 +213,7 @@ impl Cache {
     {
         self.stamp = stamp;
         count(&mut self.tally.made);
-        self.go(Step::PutNumber, num(NUMBER, stamp.number()))
+        self.go(Step::PutNumber, PackedCommand::num(NUMBER, stamp.number()))
     }
 
     // Begins the next operation, or the end.
@@ -232,7 +235,7 @@ impl Cache {
                 self.scanned = SCANNED - 1;
                 self.read(key)
             }
-            None => self.go(Step::ClearValue, nil(VALUE)),
+            None => self.go(Step::ClearValue, PackedCommand::nil(VALUE)),
         }
     }
 
@@ -266,7 +269,7 @@ impl Cache {
             return self.put(Stamp { key, version });
         }
         if is_dead {
-            let command = cas(index_of(self.key), field_of(self.key), OLD, NIL);
+            let command = PackedCommand::cas(index_of(self.key), field_of(self.key), OLD, NIL);
             return self.go(Step::Clear, command);
         }
         self.after_read()
@@ -278,14 +281,14 @@ impl Cache {
     {
         match (self.step, reply) {
             (Step::ReadWeak, Reply::Given(Value::Ref(_))) => {
-                self.go(Step::ReadValue, deref(VALUE, OLD))
+                self.go(Step::ReadValue, PackedCommand::deref(VALUE, OLD))
             }
             (Step::ReadWeak, Reply::Given(Value::Nil)) => {
                 count(&mut self.tally.absent);
                 self.missed(false)
             }
             (Step::ReadValue, Reply::Given(Value::Ref(_))) => {
-                self.go(Step::ReadStamp, get(NUMBER, VALUE, 0))
+                self.go(Step::ReadStamp, PackedCommand::get(NUMBER, VALUE, 0))
             }
             (Step::ReadValue, Reply::Dead) => {
                 count(&mut self.tally.dead);
@@ -307,14 +310,17 @@ impl Cache {
     {
         let key = self.stamp.key;
         match (self.step, reply) {
-            (Step::PutNumber, Reply::Fine) => self.go(Step::PutValue, pair(NEW, 0, NUMBER, NIL)),
+            (Step::PutNumber, Reply::Fine) => self.go(
+                Step::PutValue,
+                PackedCommand::pair(NEW, 0, NUMBER, NIL),
+            ),
             (Step::PutValue, Reply::Given(_)) => {
-                self.go(Step::PutWeak, weak(WEAK, NEW, NEW, NUMBER))
+                self.go(Step::PutWeak, PackedCommand::weak(WEAK, NEW, NEW, NUMBER))
             }
             (Step::PutWeak, Reply::Given(_)) => self.read_count(),
             (Step::Keep, Reply::Fine) => self.read_old(),
             (Step::ReadOld, Reply::Given(_)) => {
-                let command = cas(index_of(key), field_of(key), OLD, WEAK);
+                let command = PackedCommand::cas(index_of(key), field_of(key), OLD, WEAK);
                 self.go(Step::Exchange, command)
             }
             (Step::Exchange, Reply::Yes) => self.after_put(),
@@ -331,7 +337,10 @@ impl Cache {
         ensures { IfSome result (Fits most_segment_words) }
     {
         let key = self.stamp.key;
-        self.go(Step::ReadOld, get(OLD, index_of(key), field_of(key)))
+        self.go(
+            Step::ReadOld,
+            PackedCommand::get(OLD, index_of(key), field_of(key)),
+        )
     }
 
     // Goes on after a value was made: with the finalisers, once in a while.
@@ -339,7 +348,7 @@ impl Cache {
         ensures { IfSome result (Fits most_segment_words) }
     {
         if self.tally.made % VALUES_A_DRAIN == 0 {
-            return self.go(Step::Drain, nextfin(NUMBER));
+            return self.go(Step::Drain, PackedCommand::nextfin(NUMBER));
         }
         self.operate()
     }
@@ -353,12 +362,12 @@ impl Cache {
             (Step::ReadCount, Reply::Given(Value::Nil)) => self.raise(0),
             (Step::ReadCount, Reply::Given(Value::Number(turn))) => self.raise(turn),
             (Step::NextCount, Reply::Fine) => {
-                let command = cas(ring_of(key), self.sizes.entries, COUNT, RAISED);
+                let command = PackedCommand::cas(ring_of(key), self.sizes.entries, COUNT, RAISED);
                 self.go(Step::RaiseCount, command)
             }
             (Step::RaiseCount, Reply::Yes) => {
-                self.turns.take(index_of(key), self.turn);
-                let command = set(ring_of(key), self.place(), NEW);
+                self.turns.take(shard_of(key), self.turn);
+                let command = PackedCommand::set(ring_of(key), self.place(), NEW);
                 self.go(Step::Keep, command)
             }
             (Step::RaiseCount, Reply::No) => {
@@ -373,7 +382,7 @@ impl Cache {
     fn read_count(&mut self) -> Option<PackedCommand>
         ensures { IfSome result (Fits most_segment_words) }
     {
-        let command = get(COUNT, ring_of(self.stamp.key), self.sizes.entries);
+        let command = PackedCommand::get(COUNT, ring_of(self.stamp.key), self.sizes.entries);
         self.go(Step::ReadCount, command)
     }
 
@@ -381,8 +390,11 @@ impl Cache {
     fn raise(&mut self, turn: u64) -> Option<PackedCommand>
         ensures { IfSome result (Fits most_segment_words) }
     {
+        let Some(raised) = Number::new(turn.saturating_add(1)) else {
+            return self.refuse();
+        };
         self.turn = turn;
-        self.go(Step::NextCount, num(RAISED, turn.saturating_add(1)))
+        self.go(Step::NextCount, PackedCommand::num(RAISED, raised))
     }
 
     // Returns the place in its ring of the new value.
@@ -398,12 +410,15 @@ impl Cache {
             (Step::Drain | Step::LastDrain, Reply::Given(Value::Number(number))) => {
                 count(&mut self.tally.evictions);
                 self.known.evict(Stamp::of_number(number));
-                Some(nextfin(NUMBER))
+                Some(PackedCommand::nextfin(NUMBER))
             }
             (Step::Drain, Reply::Nothing) => self.operate(),
-            (Step::ClearValue, Reply::Fine) => self.go(Step::ClearNew, nil(NEW)),
-            (Step::ClearNew, Reply::Fine) => self.go(Step::Collect, full()),
-            (Step::Collect, Reply::Fine) => self.go(Step::LastDrain, nextfin(NUMBER)),
+            (Step::ClearValue, Reply::Fine) => self.go(Step::ClearNew, PackedCommand::nil(NEW)),
+            (Step::ClearNew, Reply::Fine) => self.go(Step::Collect, PackedCommand::full()),
+            (Step::Collect, Reply::Fine) => self.go(
+                Step::LastDrain,
+                PackedCommand::nextfin(NUMBER),
+            ),
             (Step::LastDrain, Reply::Nothing) => {
                 self.step = Step::Done;
                 None

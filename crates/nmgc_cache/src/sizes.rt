@@ -2,6 +2,9 @@
 
 ghost use Rattle.std.specs.Prelude.{◌<◌};
 
+use nmgc_commands::Register;
+use nmgc_limits::constants_are_these;
+
 /// The number of arrays of the index, and of rings. Each array is in a slot of the shared array.
 pub const SHARDS: u8 = 8;
 
@@ -35,16 +38,23 @@ impl Sizes {
     }
 }
 
-/// Returns the register of the index array that has a key.
-pub fn index_of(key: u32) -> u8
+/// Returns the number of the index array that has a key, and of the ring that holds its value.
+pub fn shard_of(key: u32) -> u8
     ensures { result < SHARDS }
 {
     (key % u32::from(SHARDS)) as u8
 }
 
+/// Returns the register of the index array that has a key.
+pub fn index_of(key: u32) -> Register {
+    constants_are_these();
+    Register::of(shard_of(key))
+}
+
 /// Returns the register of the ring that holds a key's value.
-pub fn ring_of(key: u32) -> u8 {
-    SHARDS + index_of(key)
+pub fn ring_of(key: u32) -> Register {
+    constants_are_these();
+    Register::of(SHARDS + shard_of(key))
 }
 
 /// Returns a key's field in its index array. A key past all fields counts as the last one.

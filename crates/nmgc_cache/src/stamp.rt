@@ -1,6 +1,5 @@
 //! A key and its version as one number, which a field of an object holds.
-
-ghost use Rattle.std.specs.Prelude.{◌<◌, ◌^◌};
+use nmgc_commands::Number;
 
 // The number of versions of a key, and the greatest key.
 const VERSIONS: u64 = 4_294_967_296;
@@ -15,11 +14,9 @@ pub struct Stamp {
 }
 
 impl Stamp {
-    /// Returns the stamp as a number. A key past 2^30 - 1 counts as that, so the number fits a register.
-    pub fn number(self) -> u64
-        ensures { result < 2 ^ 62 }
-    {
-        u64::from(self.key.min(MOST_KEY)) * VERSIONS + u64::from(self.version)
+    /// Returns the stamp as a number of a register. A key past 2^30 - 1 counts as that.
+    pub fn number(self) -> Number {
+        Number::of(u64::from(self.key.min(MOST_KEY)) * VERSIONS + u64::from(self.version))
     }
 
     /// Returns the stamp that a number is.

@@ -6,15 +6,15 @@ ghost use Rattle.nmgc_limits.specs.Limits.{most_segment_words};
 ghost use Rattle.nmgc_world_spec.specs.World.{Fits};
 
 use crate::sizes::{MOST_FIELDS, SHARDS, Sizes};
-use nmgc_commands::PackedCommand;
-use nmgc_decider::commands::{arr, get_shared, set_shared, yield_now};
+use nmgc_commands::registers::LAST;
+use nmgc_commands::{PackedCommand, Register};
 use nmgc_world_spec::{Reply, Value};
 
 /// The register that always holds nil.
-pub const NIL: u8 = 63;
+pub const NIL: Register = LAST;
 
 // The number of the last array.
-const LAST: u8 = 2 * SHARDS - 1;
+const LAST_TABLE: u8 = 2 * SHARDS - 1;
 
 /// The event for which a mutator waits, with the number of the array.
 #[derive(Clone, Copy, Debug, PartialEq, Eq)]
@@ -55,15 +55,25 @@ impl Setting {
         }
     }
 
-    /// Returns the command whose reply is awaited, or `None` if there is none any more. The clause says only that it fits.
+    /// Returns the command whose reply is awaited, or `None` if there is none any more, or no register for the array. The clause
+    /// says only that it fits.
     pub fn command(self, sizes: Sizes) -> Option<PackedCommand>
         ensures { IfSome result (Fits most_segment_words) }
     {
         match self {
-            Setting::Making(table) => Some(arr(table, fields_of(sizes, table), NIL)),
-            Setting::Sharing(table) => Some(set_shared(u16::from(table), table)),
-            Setting::Finding(table) => Some(get_shared(table, u16::from(table))),
-            Setting::Waiting(_) => Some(yield_now()),
+            Setting::Making(table) => {
+                let fields = fields_of(sizes, table);
+                Some(PackedCommand::arr(Register::new(table)?, fields, NIL))
+            }
+            Setting::Sharing(table) => {
+                let register = Register::new(table)?;
+                Some(PackedCommand::set_shared(u16::from(table), register))
+            }
+            Setting::Finding(table) => {
+                let register = Register::new(table)?;
+                Some(PackedCommand::get_shared(register, u16::from(table)))
+            }
+            Setting::Waiting(_) => Some(PackedCommand::yield_now()),
             Setting::Set | Setting::Refused => None,
         }
     }
@@ -73,7 +83,7 @@ impl Setting {
         match (self, reply) {
             (Setting::Making(table), Reply::Given(Value::Ref(_))) => Setting::Sharing(table),
             (Setting::Sharing(table), Reply::Fine) => {
-                if table < LAST {
+                if table < LAST_TABLE {
                     Setting::Making(table + 1)
                 } else {
                     Setting::Set
@@ -82,7 +92,7 @@ impl Setting {
             (Setting::Finding(table), Reply::Given(Value::Nil)) => Setting::Waiting(table),
             (Setting::Waiting(table), Reply::Fine) => Setting::Finding(table),
             (Setting::Finding(table), Reply::Given(Value::Ref(_))) => {
-                if table < LAST {
+                if table < LAST_TABLE {
                     Setting::Finding(table + 1)
                 } else {
                     Setting::Set

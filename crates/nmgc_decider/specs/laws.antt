@@ -1,2 +1,3 @@
 pub mod Ready
+pub mod Shapes
 pub mod Waiting

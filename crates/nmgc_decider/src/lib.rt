@@ -4,8 +4,8 @@
 //! and counts the commands that are left. So a decider has no law to prove and no command to store.
 //!
 //! - `decider`: the trait `Decider`, and `Decided`, the program of a decider.
-//! - `commands`: a function for each command that programs use most. Each makes a command that fits every heap, whatever its
-//!   numbers are. Only `arr` asks for segments with two words more than its count.
+//! - `frames`: slots of an array, for programs with more live references than registers.
+//! - `objects`: typed views of constructors.
 //! - `figures`: a line with the figures of a run, for its end.
 //! - `heap`: the sizes of a heap with a given number of segments.
 //! - `progress`: a gate that prints a line on the way.
@@ -14,14 +14,17 @@
 //! Easy to get wrong: a decider counts no commands itself. At its last command `Decided` ends, even if the decider would go on.
 #![tactic(auto)]
 
-pub mod commands;
 pub mod decider;
 pub mod figures;
+pub mod frames;
 pub mod heap;
+pub mod objects;
 pub mod progress;
 pub mod random;
 
 pub use decider::{Decided, Decider, MOST_COMMANDS};
+pub use frames::Frame;
 pub use heap::heap_of;
+pub use objects::{Obj, Shape};
 pub use progress::Progress;
 pub use random::Random;

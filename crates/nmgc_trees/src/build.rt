@@ -4,17 +4,17 @@
 //! the two upper trees become one, as often as the number of leaves has zeros at its end in binary. Easy to get wrong: a tree's
 //! register is overwritten by its parent, so the root ends in the first register.
 ghost use Rattle.std.specs.Prelude.{IfSome};
-ghost use Rattle.nmgc_decider.specs.Fitting.{FitsAny};
+ghost use Rattle.nmgc_commands.specs.Fitting.{FitsAny};
 
+use crate::node::node_above;
 use crate::trees::NIL;
-use nmgc_commands::PackedCommand;
-use nmgc_decider::commands::pair;
+use nmgc_commands::{PackedCommand, Register};
 
 /// A tree that is being made.
 #[derive(Clone, Copy, Debug, PartialEq, Eq)]
 pub struct Build {
     // The register of the root.
-    first: u8,
+    first: Register,
     // The number of leaves of the whole tree.
     wanted: u32,
     // The number of leaves that were made.
@@ -27,7 +27,7 @@ pub struct Build {
 
 impl Build {
     /// Begins a tree of this depth, whose root will be in register `first`. A depth past 31 counts as 31.
-    pub fn new(first: u8, depth: u8) -> Self {
+    pub fn new(first: Register, depth: u8) -> Self {
         Build {
             first,
             wanted: 1 << depth.min(31),
@@ -42,31 +42,32 @@ impl Build {
         self.leaves > 0
     }
 
-    /// Returns the command that makes the next node, or `None` once the tree is whole. The clause says only that it fits.
+    /// Returns the command that makes the next node, or `None` once the tree is whole, or higher than there are registers. The
+    /// clause says only that it fits.
     pub fn next(&mut self) -> Option<PackedCommand>
         ensures { IfSome result FitsAny }
     {
         if self.pairs > 0 {
             self.pairs -= 1;
-            return Some(self.parent());
+            return self.parent();
         }
         if self.leaves >= self.wanted {
             return None;
         }
         self.leaves += 1;
         self.pairs = self.leaves.trailing_zeros();
-        let leaf = pair(self.first.wrapping_add(self.height), 0, NIL, NIL);
+        let leaf = node_above(self.first, self.height)?;
         self.height = self.height.saturating_add(1);
-        Some(leaf)
+        Some(leaf.make(&[NIL, NIL]))
     }
 
     // Returns the command that makes one tree of the two upper trees.
-    fn parent(&mut self) -> PackedCommand
-        ensures { FitsAny result }
+    fn parent(&mut self) -> Option<PackedCommand>
+        ensures { IfSome result FitsAny }
     {
         self.height = self.height.saturating_sub(1);
-        let right = self.first.wrapping_add(self.height);
-        let left = right.saturating_sub(1);
-        pair(left, 0, left, right)
+        let right = node_above(self.first, self.height)?;
+        let left = node_above(self.first, self.height.saturating_sub(1))?;
+        Some(left.make(&[left.register, right.register]))
     }
 }

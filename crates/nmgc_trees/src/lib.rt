@@ -8,6 +8,7 @@
 //! programs make these trees, count rightly and see a wrong reply is only tested.
 //!
 //! - `plan`: the trees of a mutator, by the greatest depth; the counts that are right, and the commands that it takes.
+//! - `node`: the nodes, as pairs.
 //! - `build`: the commands that make one tree. `walk`: those that count one.
 //! - `trees`: the decider, which makes and counts the trees of its plan in turn.
 //! - `run`: the whole run, and its counts. `text`: its lines. `top`: the program.
@@ -16,6 +17,7 @@
 #![tactic(auto)]
 
 pub mod build;
+pub mod node;
 pub mod plan;
 pub mod run;
 mod text;
@@ -24,6 +26,7 @@ pub mod trees;
 pub mod walk;
 
 pub use build::Build;
+pub use node::Node;
 pub use plan::{LEAST_DEPTH, MOST_DEPTH, Plan};
 pub use run::{Counts, counted};
 pub use top::program;

@@ -5,23 +5,23 @@
 //! part of a dropped tree, until the next tree overwrites it.
 ghost use Rattle.std.specs.Prelude.{IfSome};
 ghost use Rattle.nmgc_limits.specs.Limits.{least_segment_words};
-ghost use Rattle.nmgc_decider.specs.Fitting.{FitsAny};
+ghost use Rattle.nmgc_commands.specs.Fitting.{FitsAny};
 
 use crate::build::Build;
 use crate::plan::{FIRST_DEPTH, Plan};
 use crate::walk::Walk;
-use nmgc_commands::PackedCommand;
+use nmgc_commands::registers::{LAST, R0, R1};
+use nmgc_commands::{PackedCommand, Register};
 use nmgc_decider::Decider;
-use nmgc_decider::commands::nil;
 use nmgc_world_spec::{Reply, Value};
 
 // The registers of the second tree's root and of a small tree's root.
-const KEPT: u8 = 0;
+const KEPT: Register = R0;
 
-const SMALL: u8 = 1;
+const SMALL: Register = R1;
 
 /// The register that always holds nil.
-pub const NIL: u8 = 63;
+pub const NIL: Register = LAST;
 
 /// The number of even depths that small trees may have.
 pub const DEPTHS: usize = 8;
@@ -82,7 +82,7 @@ impl Trees {
         if !plan.has_large() {
             trees.begin_small(FIRST_DEPTH);
         }
-        (trees, nil(NIL))
+        (trees, PackedCommand::nil(NIL))
     }
 
     /// Returns whether all trees of the plan were made and counted, and no reply was refused.
@@ -91,7 +91,7 @@ impl Trees {
     }
 
     // Begins to make a tree.
-    fn begin(&mut self, tree: Tree, first: u8, depth: u8) {
+    fn begin(&mut self, tree: Tree, first: Register, depth: u8) {
         self.tree = tree;
         self.doing = Doing::Building(Build::new(first, depth));
     }
@@ -168,7 +168,7 @@ impl Trees {
         }
         match &mut self.doing {
             Doing::Building(build) => build.next(),
-            Doing::Walking(walk) => Some(walk.left()),
+            Doing::Walking(walk) => walk.left(),
         }
     }
 }

@@ -3,22 +3,18 @@
 //! The node at each depth of the path is in a register of its own. A node with nil as its left child is a leaf. A bit for each
 //! depth says whether the path goes through the right child there. Easy to get wrong: on the way up the walk asks for a right
 //! child only once, so the bit is set before.
-ghost use Rattle.std.specs.Prelude.{IfSome};
-ghost use Rattle.nmgc_decider.specs.Fitting.{FitsAny};
+ghost use Rattle.std.specs.Prelude.{◌<◌, IfSome};
+ghost use Rattle.nmgc_commands.specs.Fitting.{FitsAny};
 
-use nmgc_commands::PackedCommand;
-use nmgc_decider::commands::get;
+use crate::node::{Node, node_above};
+use nmgc_commands::{PackedCommand, Register};
 use nmgc_world_spec::{Reply, Value};
-
-const LEFT: u16 = 0;
-
-const RIGHT: u16 = 1;
 
 /// A tree that is being counted.
 #[derive(Clone, Copy, Debug, PartialEq, Eq)]
 pub struct Walk {
     // The register of the root.
-    first: u8,
+    first: Register,
     // The depth of the node whose child is read.
     depth: u8,
     // For each depth, whether the path goes through the right child.
@@ -29,7 +25,7 @@ pub struct Walk {
 
 impl Walk {
     /// Begins at the root in register `first`.
-    pub fn new(first: u8) -> Self {
+    pub fn new(first: Register) -> Self {
         Walk {
             first,
             depth: 0,
@@ -43,11 +39,12 @@ impl Walk {
         self.nodes
     }
 
-    /// Returns the command that reads the left child of the node that was found last. The clause says only that it fits.
-    pub fn left(&self) -> PackedCommand
-        ensures { FitsAny result }
+    /// Returns the command that reads the left child of the node that was found last, or `None` if the tree is deeper than there
+    /// are registers. The clause says only that it fits.
+    pub fn left(&self) -> Option<PackedCommand>
+        ensures { IfSome result FitsAny }
     {
-        self.child(LEFT)
+        self.child(Node::LEFT)
     }
 
     /// Takes the child that was read, and returns the command that reads the next one, or `None` once all were read. A reply
@@ -59,7 +56,7 @@ impl Walk {
             self.nodes = self.nodes.saturating_add(1);
             self.depth = self.depth.saturating_add(1);
             self.rights &= !self.bit();
-            return Some(self.left());
+            return self.left();
         }
         self.up()
     }
@@ -72,7 +69,7 @@ impl Walk {
             self.depth = depth;
             if self.rights & self.bit() == 0 {
                 self.rights |= self.bit();
-                return Some(self.child(RIGHT));
+                return self.child(Node::RIGHT);
             }
         }
         None
@@ -84,10 +81,12 @@ impl Walk {
     }
 
     // Returns the command that reads a child of the node at this depth into the register of the next depth.
-    fn child(&self, index: u16) -> PackedCommand
-        ensures { FitsAny result }
+    fn child(&self, field: u16) -> Option<PackedCommand>
+        requires { field < 2 }
+        ensures { IfSome result FitsAny }
     {
-        let node = self.first.wrapping_add(self.depth);
-        get(node.saturating_add(1), node, index)
+        let node = node_above(self.first, self.depth)?;
+        let child = node_above(node.register, 1)?;
+        Some(node.get(child.register, field))
     }
 }

@@ -156,7 +156,7 @@ fn wrong_finalisers_are_seen(rt: HostRuntime) -> Result<(), Fail> {
 // Whether a stamp is this number, and the number is the stamp.
 fn is_stamp(key: u32, version: u32, number: u64) -> bool {
     let stamp = Stamp { key, version };
-    stamp.number() == number && Stamp::of_number(number) == stamp
+    stamp.number().value() == number && Stamp::of_number(number) == stamp
 }
 
 #[test]

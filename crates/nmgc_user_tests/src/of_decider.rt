@@ -1,15 +1,16 @@
-//! Deciders: their ends, and commands whose registers don't exist.
-ghost use Rattle.std.specs.Prelude.{◌≡◌, ◌<◌};
-ghost use Rattle.nmgc_limits.specs.Limits.{least_segment_words};
+//! Deciders: their ends, frames, and registers that don't exist.
+ghost use Rattle.std.specs.Prelude.{◌≡◌, ◌<◌, ◌≤◌, IfSome};
+ghost use Rattle.nmgc_limits.specs.Limits.{least_segment_words, most_segment_words};
+ghost use Rattle.nmgc_commands.specs.Fitting.{FitsAny};
 ghost use Rattle.nmgc_decider.specs.Ready.{IsReady};
 
-use nmgc_commands::{Form, PackedCommand};
+use nmgc_commands::registers::{LAST, R0, R1, R2};
+use nmgc_commands::{Number, PackedCommand, Register};
 use nmgc_cycle::Collector;
-use nmgc_decider::commands::{get, num, pair, register, show};
-use nmgc_decider::{Decided, Decider, Random, heap_of};
+use nmgc_decider::{Decided, Decider, Frame, Random, heap_of};
 use nmgc_journal::End;
 use nmgc_round::OpenGate;
-use nmgc_world_spec::{Operand, Reply, Value};
+use nmgc_world_spec::{Reply, Value};
 use std::test::Fail;
 
 // A program that adds a cell to a list until it has `wanted`, and then reads them all again, and adds up their numbers.
@@ -31,9 +32,9 @@ enum Step {
 }
 
 // The cell that was made or read last, its number, and the register that stays nil at the beginning.
-const LIST: u8 = 0;
+const LIST: Register = R0;
 
-const NUMBER: u8 = 1;
+const NUMBER: Register = R1;
 
 impl Decider for Summing {
     ghost steps = { λ p r q. Unit {0} };
@@ -46,25 +47,26 @@ impl Decider for Summing {
         match (self.step, reply) {
             (Step::Number, Reply::Fine) => {
                 self.step = Step::Cell;
-                Some(pair(LIST, 0, NUMBER, LIST))
+                Some(PackedCommand::pair(LIST, 0, NUMBER, LIST))
             }
             (Step::Cell, Reply::Given(Value::Ref(_))) => {
                 self.made = self.made.saturating_add(1);
                 if self.made < self.wanted {
                     self.step = Step::Number;
-                    return Some(num(NUMBER, self.made.saturating_add(1)));
+                    let number = Number::new(self.made.saturating_add(1))?;
+                    return Some(PackedCommand::num(NUMBER, number));
                 }
                 self.step = Step::First;
-                Some(get(NUMBER, LIST, 0))
+                Some(PackedCommand::get(NUMBER, LIST, 0))
             }
             (Step::First, Reply::Given(Value::Number(number))) => {
                 self.sum = self.sum.saturating_add(number);
                 self.step = Step::Rest;
-                Some(get(LIST, LIST, 1))
+                Some(PackedCommand::get(LIST, LIST, 1))
             }
             (Step::Rest, Reply::Given(Value::Ref(_))) => {
                 self.step = Step::First;
-                Some(get(NUMBER, LIST, 0))
+                Some(PackedCommand::get(NUMBER, LIST, 0))
             }
             (_, _) => {
                 self.step = Step::End;
@@ -86,7 +88,7 @@ fn sum_of(wanted: u64, most: u32) -> Decided<Summing>
         sum: 0,
         step: Step::Number,
     };
-    Decided::new(summing, num(NUMBER, 1), most)
+    Decided::new(summing, PackedCommand::num(NUMBER, Number::of(1)), most)
 }
 
 #[test]
@@ -115,21 +117,133 @@ fn a_program_ends_at_its_last_command(rt: HostRuntime) -> Result<(), Fail> {
     Ok(())
 }
 
-// Whether this number counts as register `want`, also in a command.
-fn counts_as(number: u8, want: u8) -> bool {
-    let command = show(number);
-    let Form::Show { value } = command.form() else {
-        return false;
+#[test]
+fn registers_and_numbers_are_within_their_limits(rt: HostRuntime) {
+    assert!(rt; Register::new(0) == Some(R0) && Register::new(63) == Some(LAST));
+    assert!(rt; Register::new(64).is_none() && Register::new(255).is_none());
+    assert!(rt; Number::new((1 << 62) - 1).is_some() && Number::new(1 << 62).is_none());
+}
+
+// A program that keeps a pair in each slot of a frame, drops all else by a full cycle, and loads the pairs again.
+#[derive(Drop)]
+struct Keeping {
+    frame: Frame,
+    step: Keep,
+    pushed: u64,
+    sum: u64,
+}
+
+#[derive(Clone, Copy, Debug, PartialEq, Eq)]
+enum Keep {
+    Frame,
+    Number,
+    Pair,
+    Push,
+    Collect,
+    Pop,
+    Read,
+    End,
+}
+
+const FRAME: Register = R2;
+
+impl Keeping {
+    // Goes on with a step and its command.
+    fn go(&mut self, step: Keep, command: PackedCommand) -> Option<PackedCommand>
+        requires { FitsAny command }
+        ensures { IfSome result FitsAny }
+    {
+        self.step = step;
+        Some(command)
+    }
+
+    // Makes the next number, or collects once the frame is full.
+    fn number(&mut self) -> Option<PackedCommand>
+        ensures { IfSome result FitsAny }
+    {
+        if self.frame.depth == self.frame.slots {
+            return self.go(Keep::Collect, PackedCommand::full());
+        }
+        let number = Number::new(self.pushed)?;
+        self.go(Keep::Number, PackedCommand::num(NUMBER, number))
+    }
+
+    // Loads the pair that was pushed last.
+    fn pop(&mut self) -> Option<PackedCommand>
+        ensures { IfSome result FitsAny }
+    {
+        let Some(command) = self.frame.pop(LIST) else {
+            self.step = Keep::End;
+            return None;
+        };
+        self.go(Keep::Pop, command)
+    }
+
+    // Pushes the pair that was made.
+    fn push(&mut self) -> Option<PackedCommand>
+        ensures { IfSome result FitsAny }
+    {
+        let command = self.frame.push(LIST)?;
+        self.pushed = self.pushed.saturating_add(1);
+        self.go(Keep::Push, command)
+    }
+}
+
+impl Decider for Keeping {
+    ghost steps = { λ p r q. Unit {0} };
+
+    ghost words = { λ p. most_segment_words };
+
+    ghost valid = { λ p. Unit {0} };
+
+    fn decide(&mut self, reply: Reply) -> Option<PackedCommand> {
+        match (self.step, reply) {
+            (Keep::Frame, Reply::Given(Value::Ref(_))) | (Keep::Push, Reply::Fine) => self.number(),
+            (Keep::Number, Reply::Fine) => self.go(
+                Keep::Pair,
+                PackedCommand::pair(LIST, 0, NUMBER, LAST),
+            ),
+            (Keep::Pair, Reply::Given(Value::Ref(_))) => self.push(),
+            (Keep::Collect, Reply::Fine) => self.pop(),
+            (Keep::Pop, Reply::Given(Value::Ref(_))) => self.go(
+                Keep::Read,
+                PackedCommand::get(NUMBER, LIST, 0),
+            ),
+            (Keep::Read, Reply::Given(Value::Number(number))) => {
+                self.sum = self.sum.saturating_add(number);
+                self.pop()
+            }
+            (_, _) => None,
+        }
+    }
+}
+
+// A program that keeps `slots` pairs.
+fn frame_of(slots: u16) -> Decided<Keeping>
+    requires { slots ≤ 4094 }
+    ensures ready { IsReady (λ (d : Keeping). most_segment_words) (λ (d : Keeping). Unit {0}) result }
+    ensures most { result.left ≡ 10000 }
+{
+    let frame = Frame::new(FRAME, slots);
+    let keeping = Keeping {
+        frame,
+        step: Keep::Frame,
+        pushed: 0,
+        sum: 0,
     };
-    register(number) == want && *value == Operand::Register(want)
+    Decided::new(keeping, frame.make(LAST), 10_000)
 }
 
 #[test]
-fn registers_that_do_not_exist_count_as_the_last(rt: HostRuntime) {
-    assert!(rt; counts_as(0, 0));
-    assert!(rt; counts_as(63, 63));
-    assert!(rt; counts_as(64, 63));
-    assert!(rt; counts_as(255, 63));
+fn a_frame_keeps_more_references_than_registers(rt: HostRuntime) -> Result<(), Fail> {
+    let config = heap_of(64, 8, 1).ok_or("no heap")?;
+    let mut programs = [frame_of(1000)];
+    let report = Collector::run_programs(rt.alloc(), &rt, &config, &mut programs, &OpenGate)?;
+    assert!(rt; report.end == End::Done);
+    let [program] = programs;
+    assert!(rt; program.decider.step == Keep::End && program.decider.pushed == 1000);
+    assert!(rt; program.decider.sum == 499_500);
+    Ok(())
 }
 
 #[test]

@@ -1,5 +1,6 @@
 //! Binary trees: the lines of the benchmarks game, words that are wrong, and a sink that fails.
 use crate::words::Words;
+use nmgc_commands::registers::{R0, R1};
 use nmgc_decider::{Decider, Random};
 use nmgc_io::MemorySink;
 use nmgc_round::OpenGate;
@@ -102,7 +103,7 @@ fn a_sink_that_fails_gives_its_status(rt: HostRuntime) -> Result<(), Fail> {
 
 // Returns the number of commands that make a tree of this depth.
 fn built(depth: u8) -> u64 {
-    let mut build = Build::new(1, depth);
+    let mut build = Build::new(R1, depth);
     let mut commands = 0u64;
     for _ in 0..1000u32 {
         if build.next().is_none() {
@@ -124,7 +125,7 @@ fn a_tree_has_a_command_for_each_node(rt: HostRuntime) {
 // Whether a walk counts the root and each reference that it saw, over a tree that no heap has: each reply is drawn by lot, and
 // references are few.
 fn is_counted(random: &mut Random) -> bool {
-    let mut walk = Walk::new(0);
+    let mut walk = Walk::new(R0);
     let mut seen = 1u64;
     for turn in 0..10_000u32 {
         let is_there = turn < 500 && random.below(100) < 45;
