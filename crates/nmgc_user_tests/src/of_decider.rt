@@ -1,8 +1,8 @@
 //! Deciders: their ends, frames, and registers that don't exist.
 ghost use Rattle.std.specs.Prelude.{◌≡◌, ◌<◌, ◌≤◌, IfSome};
 ghost use Rattle.nmgc_limits.specs.Limits.{least_segment_words, most_segment_words};
-ghost use Rattle.nmgc_commands.specs.Fitting.{FitsAny};
 ghost use Rattle.nmgc_decider.specs.Ready.{IsReady};
+ghost use Rattle.nmgc_world_spec.specs.World.{Fits};
 
 use nmgc_commands::registers::{LAST, R0, R1, R2};
 use nmgc_commands::{Number, PackedCommand, Register};
@@ -150,8 +150,8 @@ const FRAME: Register = R2;
 impl Keeping {
     // Goes on with a step and its command.
     fn go(&mut self, step: Keep, command: PackedCommand) -> Option<PackedCommand>
-        requires { FitsAny command }
-        ensures { IfSome result FitsAny }
+        requires { Fits most_segment_words command }
+        ensures { IfSome result (Fits most_segment_words) }
     {
         self.step = step;
         Some(command)
@@ -159,7 +159,7 @@ impl Keeping {
 
     // Makes the next number, or collects once the frame is full.
     fn number(&mut self) -> Option<PackedCommand>
-        ensures { IfSome result FitsAny }
+        ensures { IfSome result (Fits most_segment_words) }
     {
         if self.frame.depth == self.frame.slots {
             return self.go(Keep::Collect, PackedCommand::full());
@@ -170,7 +170,7 @@ impl Keeping {
 
     // Loads the pair that was pushed last.
     fn pop(&mut self) -> Option<PackedCommand>
-        ensures { IfSome result FitsAny }
+        ensures { IfSome result (Fits most_segment_words) }
     {
         let Some(command) = self.frame.pop(LIST) else {
             self.step = Keep::End;
@@ -181,7 +181,7 @@ impl Keeping {
 
     // Pushes the pair that was made.
     fn push(&mut self) -> Option<PackedCommand>
-        ensures { IfSome result FitsAny }
+        ensures { IfSome result (Fits most_segment_words) }
     {
         let command = self.frame.push(LIST)?;
         self.pushed = self.pushed.saturating_add(1);
