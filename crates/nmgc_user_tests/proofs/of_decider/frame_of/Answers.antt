@@ -5,6 +5,6 @@ use Rattle.nmgc_user_tests.proofs.of_decider.frame_of.Goals as goal
 
 pub returns-clause-ready : goal.returns-clause-ready
 returns-clause-ready c =
-    let slots = c.new.ensures.slots in
-    let left = c.new-2.ensures.left in
-    ready_new _ _ c.new-2.result _ c.new-2.ensures.waiting tt (c.make.ensures.fits most_segment_words (omega (arith, slots, c))) (omega arith) (omega (arith, left, c))
+    let slots = c.new-frame.ensures.slots in
+    let left = c.new.ensures.left in
+    ready_new _ _ c.new.result _ c.new.ensures.waiting tt (c.make.ensures.fits most_segment_words (omega (arith, slots, c))) (omega arith) (omega (arith, left, c))
