@@ -3,7 +3,6 @@
 package main
 
 import (
-	"fmt"
 	"math/rand"
 	"os"
 	"runtime"
@@ -145,5 +144,4 @@ func main() {
 		cycle(commands)
 	}
 	end()
-	fmt.Println("done")
 }
