@@ -4,10 +4,10 @@
 -- cycle. A value that goes from mutator to mutator past all objects is due if the first isn't scanned and the second is.
 use Rattle.std.specs.Prelude.{◌≡◌, ◌≢◌, ◌<◌, ◌↔◌, ◌⊎◌, ℕ, suc, List, [], ◌∷◌, ◌++◌, map, length, replicate, slice_set, slice_index_or, Bool, true, false, IsSome, Contains}
 use Rattle.std.specs.List.{flat_map}
-use Rattle.nmgc_world_spec.specs.{declared.value.Name.Name, declared.value.Value.Value, declared.mutator_state.MutatorState.MutatorState, declared.command.Command.Command, declared.command.Command.TheVariants.Show, declared.command.Operand.Operand, declared.command.Reply.Reply, World.World, World.state_of, World.node_of, World.step, World.shared_name, World.value_for, World.with_register, Known.IsWorld, Known.IsRegister, Known.CanApply, Reach.IsLive, Reach.IsKept, Reach.opened_by, Reach.finalised_by, Reach.name_in}
+use Rattle.nmgc_world_spec.specs.{declared.value.Name.Name, declared.value.Value.Value, declared.mutator_state.MutatorState.MutatorState, declared.command.Command.Command, declared.command.Command.TheVariants.Show, declared.command.Operand.Operand, declared.command.Reply.Reply, World.World, World.state_of, World.node_of, World.step, World.shared_name, World.value_for, World.with_register, Known.IsWorld, Known.IsKnown, Known.IsRegister, Known.CanApply, Reach.IsLive, Reach.IsKept, Reach.opened_by, Reach.finalised_by, Reach.name_in}
 use Rattle.nmgc_world_spec.specs.declared.value.Value.TheVariants as value
 use Rattle.nmgc_snapshot_laws.specs.{State.State, State.names_of, State.mark_name, State.opening, Machine.after_command, Machine.after_scan, Facts.MayHold}
-use Rattle.nmgc_barrier_laws.specs.{declared.debt.Debt.Debt, Due.IsDue, Stored.IsStored, Barrier.names_in, Barrier.after_pushing, Barrier.IsSorted, Barrier.HasFinished, Barrier.EndsExactly}
+use Rattle.nmgc_barrier_laws.specs.{declared.debt.Debt.Debt, Due.IsDue, Stored.IsStored, Barrier.names_in, Barrier.after_pushing, Barrier.IsSorted, Barrier.HasFinished, Barrier.EndsExactly, Barrier.Watches, Barrier.Beside}
 use Rattle.nmgc_barrier_laws.specs.Cycle.{Cycle, watching, OwesBy, IsPushed, IsTook}
 
 -- a mutator if it is shown, otherwise the mutator with empty registers
@@ -119,6 +119,21 @@ pub record IsHandedOver (h : Hybrid) (line m : ℕ) (v : Operand) (n r : ℕ) (n
       ((debt.line ≡ line) × (debt.mutator ≡ m) × IsHandedBy h m v n debt.name × (Contains h.watch.remembered debt.name → ⊥))
   pub due : (name : Name) → IsHandedBy h m v n name → Contains h.watch.remembered name ⊎ OwesBy next.watch m name
 
+-- the names that were opened or remembered, or are due
+abbrev pub names_kept : Cycle → List Name
+names_kept h = h.opened ++ (h.remembered ++ names_in h.debts)
+
+-- a name that a scanned mutator may hold again: new since the snapshot, or live in it by the names opened, remembered or due
+abbrev pub MayReturn : Hybrid → Name → Type 0
+MayReturn h name = IsSome (node_of h.watch.snapshot name) → IsLive h.watch.snapshot (names_kept h.watch) name
+
+-- a known value that is put back into a register, without a command. If the mutator is scanned, it may hold the value again
+pub record IsPutBack (h : Hybrid) (m r : ℕ) (v : Value) (next : Hybrid) : Type 0 where
+  pub mutator : m < length h.watch.world.mutators
+  pub known : IsKnown h.watch.world v
+  pub returns : is_scanned h m ≡ true → (name : Name) → v ≡ value.Ref name → MayReturn h name
+  pub rest : next ≡ record h { watch = record h.watch { world = with_register h.watch.world m r v } }
+
 -- a push, as in a cycle with one snapshot: it scans no mutator
 pub record IsPushedIn (h : Hybrid) (name : Name) (next : Hybrid) : Type 0 where
   pub push : IsPushed h.watch name next.watch
@@ -129,13 +144,14 @@ pub record IsTookIn (h : Hybrid) (name : Name) (next : Hybrid) : Type 0 where
   pub took : IsTook h.watch name next.watch
   pub scanned : next.scanned ≡ h.scanned
 
--- a cycle that began with this world, after any commands, values handed over, scans, pushes and takes. It began with later
--- roots, or with all mutators scanned at once
+-- a cycle that began with this world, after any commands, values handed over or put back, scans, pushes and takes. It began
+-- with later roots, or with all mutators scanned at once
 pub data WatchesIn (w : World) : Hybrid → Type 0 where
   begun : WatchesIn w (beginning w)
   begun_at_once : WatchesIn w (scanned_at_once w)
   given : (h next : Hybrid) (line m : ℕ) (c : Command) (answer : Reply) → WatchesIn w h → IsWatchedIn h line m c answer next → WatchesIn w next
   handed : (h next : Hybrid) (line m : ℕ) (v : Operand) (n r : ℕ) → WatchesIn w h → IsHandedOver h line m v n r next → WatchesIn w next
+  put_back : (h next : Hybrid) (m r : ℕ) (v : Value) → WatchesIn w h → IsPutBack h m r v next → WatchesIn w next
   scanned : (h next : Hybrid) (m : ℕ) → WatchesIn w h → IsScanned h m next → WatchesIn w next
   pushed : (h next : Hybrid) (name : Name) → WatchesIn w h → IsPushedIn h name next → WatchesIn w next
   taken : (h next : Hybrid) (name : Name) → WatchesIn w h → IsTookIn h name next → WatchesIn w next
@@ -159,6 +175,10 @@ after_handing s m v n r names = record s {
   opened = s.opened ++ names;
 }
 
+-- the state after a value was put back into a register: the marker isn't concerned
+abbrev pub after_putting : State → ℕ → ℕ → Value → State
+after_putting s m r v = record s { world = with_register s.world m r v }
+
 -- the state after a scan: the names in the registers are pushed, and count as opened
 abbrev pub after_scanning : State → ℕ → List Name → State
 after_scanning s m names = record s { opened = s.opened ++ names; pushed = slice_set s.pushed m (names_of s.pushed m ++ names) }
@@ -171,6 +191,7 @@ pub data BesideIn (w : World) : Hybrid → State → Type 0 where
       BesideIn w next (after_owing_in s m c (names_in next.watch.debts))
   give : (h next : Hybrid) (s : State) (line m : ℕ) (v : Operand) (n r : ℕ) → BesideIn w h s → IsHandedOver h line m v n r next →
       BesideIn w next (after_handing s m v n r (names_in next.watch.debts))
+  put : (h next : Hybrid) (s : State) (m r : ℕ) (v : Value) → BesideIn w h s → IsPutBack h m r v next → BesideIn w next (after_putting s m r v)
   hand : (h next : Hybrid) (s : State) (m : ℕ) → BesideIn w h s → IsScanned h m next → m < length s.pushed →
       BesideIn w next (after_scanning s m (held_names h.watch.world m))
   push : (h next : Hybrid) (s : State) (m : ℕ) (name : Name) → BesideIn w h s → IsPushedIn h name next → m < length s.pushed →
@@ -211,3 +232,13 @@ abbrev pub ScansAtOnceAreRoots : Type 0
 ScansAtOnceAreRoots = (w : World) → (held extra finalised : List Name) →
     ((name : Name) → IsSome (node_of w name) → Contains held name ↔ ((m : ℕ) × Contains (state_of w m).registers (value.Ref name))) →
     IsWorld w → (name : Name) → IsKept (bare w) (held ++ extra) finalised name ↔ IsKept w extra finalised name
+
+-- the cycle with one snapshot, as a cycle with all mutators scanned
+abbrev pub all_scanned : Cycle → Hybrid
+all_scanned h = record { watch = h; scanned = replicate (length h.world.mutators) true }
+
+-- the theorem that each cycle with one snapshot is a cycle with all mutators scanned at the mark, after the same commands,
+-- pushes and takes. Each marker beside the first is a marker beside the second, perhaps with more names that count as opened
+abbrev pub OneSnapshotIsScannedAtOnce : Type 0
+OneSnapshotIsScannedAtOnce = (w : World) (h : Cycle) → (Watches w h → WatchesIn w (all_scanned h)) ×
+    ((s : State) → Beside w h s → (opened : List Name) × BesideIn w (all_scanned h) (record s { opened = opened }))

@@ -1,3 +1,4 @@
+pub mod AtOnce
 pub mod Beside
 pub mod Commutes
 pub mod CoreIsLax
@@ -16,6 +17,7 @@ pub mod HybridFinishing
 pub mod HybridSafe
 pub mod HybridTied
 pub mod Laxer
+pub mod PutBack
 pub mod Tied
 pub mod TiedPush
 pub mod Veil

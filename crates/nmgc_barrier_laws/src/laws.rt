@@ -6,7 +6,7 @@
 //! command, another order of waiting names, a push, a mark of a name that may be held, or a scan. A *watched cycle* sees only
 //! commands, pushes and reports of taken names (`Watches`). Its debts are due names not yet pushed. Worlds are closed
 //! (`IsWorld`).
-ghost use Rattle.nmgc_barrier_laws.specs.{Barrier.BarrierTheorem, Barrier.JointTheorem, Barrier.SomeMarkerFinishes, Barrier.SomeMarkerIsBeside, FieldCycle.CommandsAreChanges, FieldCycle.FieldSafetyTheorem, FieldCycle.FieldTheorem, Hybrid.HybridJointTheorem, Hybrid.HybridSafetyTheorem, Hybrid.ScansAtOnceAreRoots, Hybrid.SomeMarkerFinishesIn, Hybrid.SomeMarkerIsBesideIn, Lax.CoreIsLax, Lax.LaxKeepsFacts, Lax.LaxTheorem};
+ghost use Rattle.nmgc_barrier_laws.specs.{Barrier.BarrierTheorem, Barrier.JointTheorem, Barrier.SomeMarkerFinishes, Barrier.SomeMarkerIsBeside, FieldCycle.CommandsAreChanges, FieldCycle.FieldSafetyTheorem, FieldCycle.FieldTheorem, Hybrid.HybridJointTheorem, Hybrid.HybridSafetyTheorem, Hybrid.OneSnapshotIsScannedAtOnce, Hybrid.ScansAtOnceAreRoots, Hybrid.SomeMarkerFinishesIn, Hybrid.SomeMarkerIsBesideIn, Lax.CoreIsLax, Lax.LaxKeepsFacts, Lax.LaxTheorem};
 
 /// Proves that each event that the marking machine does, except the end, is a list of lax steps. Requires that the marking
 /// machine's invariant (`Facts`) holds before the event, and that the world is closed (`IsWorld`).
@@ -72,6 +72,12 @@ pub fn a_hybrid_marker_is_possible()
 /// Proves that a cycle keeps the same names whether its snapshot has the registers, or all mutators are scanned at the mark.
 pub fn scans_at_once_are_roots()
     ensures { ScansAtOnceAreRoots }
+{}
+
+/// Proves that each cycle with one snapshot is a cycle whose mutators are all scanned at the mark (`all_scanned`). Each marker
+/// beside the first is beside the second, too. So the theorems of cycles with later roots hold for both kinds.
+pub fn a_cycle_with_one_snapshot_is_scanned_at_once()
+    ensures { OneSnapshotIsScannedAtOnce }
 {}
 
 /// Proves that there is a finished marker beside each cycle with later roots. So `a_hybrid_marker_is_exact` isn't an empty

@@ -9,7 +9,7 @@ use Rattle.nmgc_snapshot_laws.specs.{declared.event.Entry.Entry, State.State, St
 use Rattle.nmgc_snapshot_laws.specs.declared.event.Event.TheVariants as event
 use Rattle.nmgc_snapshot_laws.specs.Closing.{IsWaiting, IsUnmarked, IsRevived, IsMarkedFirst, IsDying, IsRescued, IsMarkedLast, IsClosing}
 use Rattle.nmgc_snapshot_laws.specs.Closing as closing
-use Rattle.nmgc_barrier_laws.specs.{declared.debt.Debt.Debt, Lax.IsShuffled, Cycle.Cycle, Cycle.Owes, Cycle.IsPushed, Barrier.names_in, Barrier.IsOnItsWay, Barrier.after_pushing, Barrier.IsSorted, Barrier.HasFinished, Barrier.EndsExactly, Hybrid.Hybrid, Hybrid.hidden, Hybrid.IsPushedIn, Hybrid.IsTookIn, Hybrid.BesideIn, Hybrid.HybridJointTheorem, laws.Floating.floated, laws.Floating.floated_facts, laws.Laxer.shuffled_facts, laws.Tied.listed_debt, laws.Tied.debt_listed, laws.Tied.all_names, laws.TiedPush.MarksOn, laws.TiedPush.marks_name, laws.TiedPush.marks_scan, laws.TiedPush.kept_same, laws.TiedPush.dead_same, laws.Veil.hidden_node, laws.HybridCommand.veiled, laws.HybridFacts.hidden_world, laws.HybridTied.IsTiedIn, laws.HybridTied.IsIn, laws.HybridTied.shown_in, laws.HybridTied.command_tied, laws.HybridTied.scanned_tied, laws.HybridTied.begin_tied, laws.HybridTied.begin_at_once_tied, laws.HandedOver.handed_tied}
+use Rattle.nmgc_barrier_laws.specs.{declared.debt.Debt.Debt, Lax.IsShuffled, Cycle.Cycle, Cycle.Owes, Cycle.IsPushed, Barrier.names_in, Barrier.IsOnItsWay, Barrier.after_pushing, Barrier.IsSorted, Barrier.HasFinished, Barrier.EndsExactly, Hybrid.Hybrid, Hybrid.hidden, Hybrid.IsPushedIn, Hybrid.IsTookIn, Hybrid.BesideIn, Hybrid.HybridJointTheorem, laws.Floating.floated, laws.Floating.floated_facts, laws.Laxer.shuffled_facts, laws.Tied.listed_debt, laws.Tied.debt_listed, laws.Tied.all_names, laws.TiedPush.MarksOn, laws.TiedPush.marks_name, laws.TiedPush.marks_scan, laws.TiedPush.kept_same, laws.TiedPush.dead_same, laws.Veil.hidden_node, laws.HybridCommand.veiled, laws.HybridFacts.hidden_world, laws.HybridTied.IsTiedIn, laws.HybridTied.IsIn, laws.HybridTied.shown_in, laws.HybridTied.command_tied, laws.HybridTied.scanned_tied, laws.HybridTied.begin_tied, laws.HybridTied.begin_at_once_tied, laws.HandedOver.handed_tied, laws.PutBack.put_tied}
 use Rattle.nmgc_barrier_laws.specs.Hybrid as hybrid
 
 -- the marker's steps read no registers
@@ -233,6 +233,7 @@ pub beside_tied : (w : World) → IsWorld w → (h : Hybrid) (s : State) → Bes
 beside_tied w is h s hybrid.start = begin_tied w is
 beside_tied w is h s hybrid.start_at_once = begin_at_once_tied w is
 beside_tied w is h s (hybrid.give before next t line m v n r b k) = handed_tied before next t (beside_tied w is before t b) line m v n r k
+beside_tied w is h s (hybrid.put before next t m r v b k) = put_tied before next t (beside_tied w is before t b) m r v k
 beside_tied w is h s (hybrid.command before next t line m c answer b k) = command_tied before next t (beside_tied w is before t b) line m c answer k
 beside_tied w is h s (hybrid.hand before next t m b k place) = scanned_tied before next t (beside_tied w is before t b) m k place
 beside_tied w is h s (hybrid.push before next t m name b k place) = push_tied before next t (beside_tied w is before t b) name k m place

@@ -1,8 +1,9 @@
 -- Nothing is lost if all mutators are scanned and nothing is due: reachable names are live by the names opened and
 -- remembered. And scans of all mutators at the mark give the roots of a cycle with one snapshot.
-use Rattle.std.proofs.Common.{◌≡◌, ◌<◌, ℕ, List, [], ◌∷◌, ◌++◌, length, refl, sym, ap, subst, ◌∙◌, ◌≤◌, arith, Option, Some, None, Bool, false, inl, inr}
+use Rattle.std.proofs.Common.{◌≡◌, ◌<◌, ℕ, List, [], ◌∷◌, ◌++◌, length, get_or, refl, sym, ap, subst, ◌∙◌, ◌≤◌, arith, Option, Some, None, Bool, true, false, inl, inr}
 use Rattle.std.specs.Prelude.{IsSome, Contains, All, ◌↔◌}
 use Rattle.std.proofs.{lemmas.List.get_or_past, lemmas.List.Elements.All-nil, lemmas.List.Elements.All-append, lemmas.List.Elements.All-contains, lemmas.List.Elements.Contains-append_left, lemmas.List.Elements.Contains-append_right, lemmas.List.Elements.Contains-append_cases, lemmas.Bool.cases_lt}
+use Rattle.nmgc_limits.specs.declared.mutators.TheConstants.{REGISTERS}
 use Rattle.nmgc_world_spec.specs.{declared.value.Name.Name, declared.value.Value.Value, declared.node.Parts.Parts, declared.node.Node.Node, declared.node.Node.TheVariants.Weak, declared.mutator_state.MutatorState.MutatorState}
 use Rattle.nmgc_world_spec.specs.declared.value.Value.TheVariants as value
 use Rattle.nmgc_world_spec.specs.{World.World, World.state_of, World.node_of, World.no_mutator, Known.IsWorld, Known.IsKnown, Known.IsNodeOf}
@@ -11,8 +12,8 @@ use Rattle.nmgc_world_spec.specs.Reach as reach
 use Rattle.nmgc_lists.specs.laws.Items.{at_some, nothing_in, map_contains, contains_head}
 use Rattle.nmgc_world_laws.specs.{Holds.Names, Holds.Fields, laws.HeldSteps.absent}
 use Rattle.nmgc_snapshot_laws.specs.{State.State, State.opening, Facts.MayHold, Facts.AsThen, Facts.Facts, laws.Lives.root_there}
-use Rattle.nmgc_barrier_laws.specs.{declared.debt.Debt.Debt, Barrier.names_in, Barrier.after_pushing, laws.TiedPush.live_same, laws.Veil.hide_length, laws.Veil.hidden_state, laws.Veil.hidden_node, laws.Veil.hidden_queue, laws.Veil.shown_names, laws.HybridCommand.veiled, laws.HybridTied.IsTiedIn, laws.HybridTied.shown_in, laws.HybridBeside.beside_tied}
-use Rattle.nmgc_barrier_laws.specs.Hybrid.{Hybrid, veil, hidden, bare, is_scanned, WatchesIn, BesideIn, AreScanned, held_names, opening_in, after_owing_in, after_handing, after_scanning, HybridSafetyTheorem, ScansAtOnceAreRoots, SomeMarkerIsBesideIn}
+use Rattle.nmgc_barrier_laws.specs.{declared.debt.Debt.Debt, Barrier.names_in, Barrier.after_pushing, laws.TiedPush.live_same, laws.Veil.hide_length, laws.Veil.hidden_state, laws.Veil.hidden_node, laws.Veil.hidden_queue, laws.Veil.shown_names, laws.HybridCommand.veiled, laws.HybridTied.IsTiedIn, laws.HybridTied.shown_in, laws.HybridBeside.beside_tied, laws.PutBack.held_returns}
+use Rattle.nmgc_barrier_laws.specs.Hybrid.{Hybrid, veil, hidden, bare, is_scanned, MayReturn, WatchesIn, BesideIn, AreScanned, held_names, opening_in, after_owing_in, after_handing, after_putting, after_scanning, HybridSafetyTheorem, ScansAtOnceAreRoots, SomeMarkerIsBesideIn}
 use Rattle.nmgc_barrier_laws.specs.Hybrid as hybrid
 
 -- the key of a weak pointer that is alive is in the map
@@ -69,6 +70,8 @@ some_marker_in w is h hybrid.begun = (opening_in w, hybrid.start)
 some_marker_in w is h hybrid.begun_at_once = (opening w, hybrid.start_at_once)
 some_marker_in w is h (hybrid.handed before next line m v n r h' k) = let p : (s : State) × BesideIn w before s = some_marker_in w is before h' in
     (after_handing p.0 m v n r (names_in next.watch.debts), hybrid.give before next p.0 line m v n r p.1 k)
+some_marker_in w is h (hybrid.put_back before next m r v h' k) = let p : (s : State) × BesideIn w before s = some_marker_in w is before h' in
+    (after_putting p.0 m r v, hybrid.put before next p.0 m r v p.1 k)
 some_marker_in w is h (hybrid.given before next line m c answer h' k) = let p : (s : State) × BesideIn w before s = some_marker_in w is before h' in
     (after_owing_in p.0 m c (names_in next.watch.debts), hybrid.command before next p.0 line m c answer p.1 k)
 some_marker_in w is h (hybrid.scanned before next m h' k) =
@@ -204,3 +207,10 @@ module _ (w : World) (held extra : List Name) (holds : (name : Name) → IsSome 
 pub at_once : ScansAtOnceAreRoots
 at_once w held extra finalised holds is name =
     (λ k. bare_kept w held extra holds is finalised name k, λ k. kept_bare w held extra holds is finalised name k)
+
+-- a name in a register of a scanned mutator may return to it
+pub held_may_return : (w : World) → IsWorld w → (h : Hybrid) → WatchesIn w h → (m r : ℕ) → m < length h.watch.world.mutators → r < REGISTERS →
+    is_scanned h m ≡ true → (name : Name) → get_or (state_of h.watch.world m).registers r value.Nil ≡ value.Ref name → MayReturn h name
+held_may_return w is h watches m r lt fits seen name held =
+    let p : (s : State) × BesideIn w h s = some_marker_in w is h watches in
+    held_returns h p.0 (beside_tied w is h p.0 p.1) m r lt fits seen name held
