@@ -8,12 +8,18 @@ from typing import NamedTuple, Optional
 from .paths import search
 from .paths import live as live_by
 from .text import is_number, order
-from .world import REGISTER, World, command_of, is_answer, is_told_name
+from .world import BELOW, REGISTER, World, command_of, is_answer, is_told_name
 
 HEAD = "trace 2"
 MUTATORS = 32
 # The answers of commands that weren't done.
 REFUSALS = ("nopointer", "nofield", "wrongkind", "notowner", "fixed", "dead", "none", "stackfull", "stackempty", "already", "no", "yes", "updated")
+# The operands that a command reads: the place of the first after the verb, from 0 on, and the place of an index among them.
+OPERANDS = {
+    "set": (0, 1), "cas": (0, 1), "get": (1, 2), "con": (2, None), "arr": (2, None), "update": (0, None), "push": (0, None),
+    "show": (0, None), "same": (0, None), "force": (1, None), "pop": (1, None), "deref": (1, None), "finalise": (1, None),
+    "tag": (1, None), "mov": (1, None), "var": (1, None), "rec": (1, None), "thunk": (1, None), "weak": (1, None),
+}
 
 
 class Debt(NamedTuple):
@@ -90,8 +96,7 @@ class Watch:
         if rows is not None:
             self.in_phase("between", "marking", "ended")
             self.has_mutator(int(word))
-            for words in rows:
-                self.give(number, int(word), words, None)
+            self.tasks(number, int(word), *rows)
             self.commands += 1
             return
         mutator, words = self.words_of(word, rest)
@@ -122,6 +127,17 @@ class Watch:
         if self.phase == "marking":
             self.due(number, mutator, words, effect)
         self.world.apply(mutator, effect)
+
+    def tasks(self, number, mutator, borrowed, tasks):
+        """A mutator gives several commands, each with its answer, if it has one. Then borrowed registers get their values back."""
+        registers = self.world.registers[mutator]
+        held = [registers[at] for at in borrowed]
+        try:
+            for words, answer in tasks:
+                self.give(number, mutator, words, answer)
+        finally:
+            for at, value in zip(borrowed, held):
+                registers[at] = value
 
     def hand(self, number, mutator, value, taker, register, answer):
         """A mutator's value goes into a register of another, past all objects."""
@@ -343,27 +359,99 @@ def unknown():
 
 
 def rows_of(rest):
-    """The commands of a copy or a fill that was done, if the line tells one."""
+    """The registers that a line borrows, and its commands with their answers, if it is a copy, a fill, an exchange, or a command with
+    numbers or nil as operands."""
     command, equals, answer = rest.partition(" = ")
     words = command.split(" ")
-    if not equals or answer != "ok":
+    if not equals or not is_answer(answer):
+        return None
+    if words[0] == "swap" and len(words) == 5:
+        return swap_of(*words[1:], answer)
+    if command_of(command) is None and words[0] in OPERANDS:
+        return immediates_of(words[0], words[1:], answer)
+    if answer != "ok":
         return None
     if words[0] == "copy" and len(words) == 8 and words[6] == "via":
-        _, to, place, source, first, count, _, register = words
-        if not (_are_operands(to, source) and REGISTER.fullmatch(register) and _are_indices(place, first, count)):
-            return None
-        turns = range(int(count))
-        rows = []
-        for at in reversed(turns) if int(place) > int(first) else turns:
-            rows.append(["get", register, source, str(int(first) + at)])
-            rows.append(["set", to, str(int(place) + at), register])
-        return rows
+        return copy_of(*words[1:6], words[7], [])
+    if words[0] == "copy" and len(words) == 6 and _are_operands(words[1], words[3]):
+        register = spare(words[1], words[3])
+        return copy_of(*words[1:], f"r{register}", [register])
     if words[0] == "fill" and len(words) == 5:
-        _, to, first, count, value = words
-        if not (_are_operands(to, value) and _are_indices(first, count)):
-            return None
-        return [["set", to, str(int(first) + at), value] for at in range(int(count))]
+        return fill_of(*words[1:])
     return None
+
+
+def swap_of(dest, source, index, value, answer):
+    """An exchange. A refused one is a store that is refused."""
+    if not (REGISTER.fullmatch(dest) and _are_operands(source) and _are_indices(index)):
+        return None
+    lender = spare(dest, source)
+    borrowed, tasks = load_of(lender, value)
+    stored = f"r{lender}" if borrowed else value
+    if not _are_operands(stored):
+        return None
+    via = spare(dest, source, stored)
+    if answer in ("nopointer", "nofield", "wrongkind", "fixed"):
+        return borrowed + [via], tasks + [(["set", source, index, stored], answer)]
+    tasks += [(["get", f"r{via}", source, index], answer), (["set", source, index, stored], None), (["mov", dest, f"r{via}"], None)]
+    return borrowed + [via], tasks
+
+
+def immediates_of(verb, words, answer):
+    """A command with a register for each number or nil that is an operand."""
+    spared = [at for at in range(64) if f"r{at}" not in words]
+    borrowed, tasks, written = [], [], [verb]
+    for place, word in enumerate(words):
+        register, loads = load_of(spared[-1], word) if spared and is_read(verb, place) else ([], [])
+        written.append(f"r{spared.pop()}" if register else word)
+        borrowed += register
+        tasks += loads
+    command = command_of(" ".join(written))
+    return None if command is None else (borrowed, tasks + [(command, answer)])
+
+
+def is_read(verb, place):
+    """Whether the word at this place after the verb is an operand that is read; the first place is 0."""
+    first, index = OPERANDS[verb]
+    return place >= first and place != index
+
+
+def copy_of(to, place, source, first, count, register, borrowed):
+    """A copy through a register: downwards if the fields move up."""
+    if not (_are_operands(to, source) and REGISTER.fullmatch(register) and _are_indices(place, first, count)):
+        return None
+    turns = range(int(count))
+    tasks = []
+    for at in reversed(turns) if int(place) > int(first) else turns:
+        tasks.append((["get", register, source, str(int(first) + at)], None))
+        tasks.append((["set", to, str(int(place) + at), register], None))
+    return borrowed, tasks
+
+
+def fill_of(to, first, count, value):
+    """A fill with an operand, a number or nil."""
+    if not (_are_operands(to) and _are_indices(first, count)):
+        return None
+    lender = spare(to)
+    borrowed, tasks = load_of(lender, value)
+    stored = f"r{lender}" if borrowed else value
+    if not _are_operands(stored):
+        return None
+    return borrowed, tasks + [(["set", to, str(int(first) + at), stored], None) for at in range(int(count))]
+
+
+def spare(*named):
+    """The last register that isn't among these operands."""
+    return next(at for at in range(63, -1, -1) if f"r{at}" not in named)
+
+
+def load_of(register, word):
+    """The registers and commands by which a register gets a number or nil; none for any other word."""
+    if word == "nil":
+        return [register], [(["nil", f"r{register}"], None)]
+    if is_number(word, BELOW):
+        return [register], [(["num", f"r{register}", word], None)]
+    return [], []
 
 
 def hand_of(rest):

@@ -5,7 +5,7 @@ use Rattle.nmgc_world_spec.specs.{World.value_for, World.with_register, Reach.Co
 use Rattle.nmgc_world_laws.specs.laws.Worlds.{holding_keeps}
 use Rattle.nmgc_snapshot_laws.specs.Machine.{is_pushed_in}
 use Rattle.nmgc_barrier_laws.specs.laws.HandedOver.{put_node}
-use Rattle.nmgc_barrier_checker.specs.{Accounts.IsOwing, Accounts.unpaid, Accounts.is_unpaid, Accounts.all_debts, NameSet.Joins, Cycles.with_scans}
+use Rattle.nmgc_barrier_checker.specs.{Accounts.IsOwing, Accounts.is_unpaid, Accounts.all_debts, NameSet.Joins, Cycles.with_scans}
 use Rattle.nmgc_barrier_checker.proofs.{CycleLaws.seen, CycleLaws.not_both, DueLaws.among_ref, DueLaws.owable_is, DueLaws.is_owable_by, Filters.mapped_in, Filters.in_mapped, Filters.in_kept, Watched.Cases, Watched.can_cases}
 
 -- the name among one value

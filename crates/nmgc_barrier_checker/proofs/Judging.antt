@@ -1,5 +1,5 @@
 -- Every event can happen or has a reason.
-use Rattle.nmgc_barrier_checker.proofs.Vocabulary.{IsBefore, before_trans, not_before_itself, ◌≡◌, ◌≢◌, ◌<◌, ℕ, List, [], ◌∷◌, ◌++◌, length, map, refl, sym, ap, subst, ◌∙◌, arith, Bool, true, false, not, cond, inl, inr, ◌⊎◌, eqb, Contains, IsSome, is_some, filter, ◌&&◌, ◌↔◌, cases_Bool, cases_lt, false≢true, and_cases, and_parts, and_from, not-false, eqb-true, eq-eqb, Contains-append_left, Contains-append_right, Contains-append_cases, Name, MutatorState, Command, Reply, is_same_name, World, node_of, IsWorld, step, shared_name, Parts, IsAlive, IsDead, IsKept, Lists, closed, contains_head, contains_cases, nothing_in, one_is, contains_one, step_keeps_world, is_listed, tested_same, is_same_name-refl, contains_listed, not_listed, listed_from, Debt, Cycle, IsPushed, IsAllTaken, IsDeadAmong, Event, Why, CycleResult, Watch, IsUntakenName, IsTaken, keys_then, IsOpenedWith, is_done, CanAct, WhyNoAct, AreDone, StopsAt, mutators_of, IsAbsent, IsAgainst, IsLeft, IsResultWith, is_old, MayFree, WhyKept, Can, IsWhy, AreClosed, EveryEventIsJudged, alive_there, Hybrid, AreScanned, IsWatchedIn, IsScanned, beginning, held_names, is_scanned, scanned_at_once, zero, suc, cases_eq, slice_set, IsTook, REGISTERS, CountsAsScanned, emptied, handed_over, Hand}
+use Rattle.nmgc_barrier_checker.proofs.Vocabulary.{Option, Some, None, IsBefore, before_trans, not_before_itself, ◌≡◌, ◌≢◌, ◌<◌, ℕ, List, [], ◌∷◌, ◌++◌, length, map, refl, sym, ap, subst, ◌∙◌, arith, Bool, true, false, not, cond, inl, inr, ◌⊎◌, eqb, Contains, IsSome, is_some, filter, ◌&&◌, ◌↔◌, cases_Bool, cases_lt, false≢true, and_cases, and_parts, and_from, not-false, eqb-true, eq-eqb, Contains-append_left, Contains-append_right, Contains-append_cases, Name, MutatorState, Command, Reply, is_same_name, World, node_of, IsWorld, step, shared_name, Parts, IsAlive, IsDead, IsKept, Lists, closed, contains_head, contains_cases, nothing_in, one_is, contains_one, step_keeps_world, is_listed, tested_same, is_same_name-refl, contains_listed, not_listed, listed_from, Debt, Cycle, IsPushed, IsAllTaken, IsDeadAmong, Event, Why, CycleResult, Watch, IsUntakenName, IsTaken, keys_then, IsOpenedWith, is_done, Suits, Task, CanAct, WhyNoAct, AreDone, AreRows, StopsAt, IsStopped, mutators_of, registers_in, put_back, IsAbsent, IsAgainst, IsLeft, IsResultWith, is_old, MayFree, WhyKept, Can, IsWhy, AreClosed, EveryEventIsJudged, alive_there, Hybrid, AreScanned, IsWatchedIn, IsScanned, beginning, held_names, is_scanned, scanned_at_once, zero, suc, cases_eq, slice_set, IsTook, REGISTERS, CountsAsScanned, emptied, handed_over, Hand}
 use Rattle.nmgc_world_spec.specs.declared.command.Reply.TheVariants as reply
 use Rattle.nmgc_barrier_checker.specs.declared.event.Event.TheVariants as event
 use Rattle.nmgc_barrier_checker.specs.declared.event.Why.TheVariants as why
@@ -44,74 +44,87 @@ given line m c answer (watch.Ended left) is = elim (can_cases left.world m c) [
 ]
 given line m c answer watch.Stopped is = inr (why.Misplaced, refl)
 
--- a command of several in one line
-acts : (line m : ℕ) (c : Command) (p : Watch) → AreClosed p → ((next : Watch) × CanAct line m c p next) ⊎ ((y : Why) × WhyNoAct m c p y)
-acts line m c (watch.Between w) is = elim (can_cases w m c) [
-  | inl can ↦ elim (cases_Bool (is_done (step w m c).1)) [
-    | inl done ↦ inl (watch.Between (step w m c).0, ((step w m c).0, (can, done, refl), refl))
-    | inr undone ↦ inr (why.Answer (step w m c).1, (can, refl, undone))
-  ]
-  | inr never ↦ inr (why.CannotApply, never)
-]
-acts line m c (watch.Marking h) is = elim (can_cases h.watch.world m c) [
-  | inl can ↦ elim (cases_Bool (is_done (step h.watch.world m c).1)) [
-    | inl done ↦ inl (watch.Marking (after h is.0 line m c can), (after h is.0 line m c can, watched h is.0 line m c can, done, refl))
-    | inr undone ↦ inr (why.Answer (step h.watch.world m c).1, (can, refl, undone))
-  ]
-  | inr never ↦ inr (why.CannotApply, never)
-]
-acts line m c (watch.Ended left) is = elim (can_cases left.world m c) [
-  | inl can ↦ elim (cases_Bool (is_done (step left.world m c).1)) [
-    | inl done ↦ inl (watch.Ended (record left { world = (step left.world m c).0 }), ((step left.world m c).0, (can, done, refl), refl))
-    | inr undone ↦ inr (why.Answer (step left.world m c).1, (can, refl, undone))
-  ]
-  | inr never ↦ inr (why.CannotApply, never)
-]
-acts line m c watch.Stopped is = inr (why.Misplaced, refl)
+-- an answer suits a task or not
+suits_cases : (o : Option Reply) (r : Reply) → Suits o r ⊎ (Suits o r → ⊥)
+suits_cases None r = elim (cases_Bool (is_done r)) [ inl t ↦ inl t | inr f ↦ inr (λ t. false≢true (sym f ∙ t)) ]
+suits_cases (Some wanted) r = elim (reply_cases r wanted) [ inl e ↦ inl e | inr ne ↦ inr ne ]
 
-still_closed : (line m : ℕ) (c : Command) (p next : Watch) → AreClosed p → CanAct line m c p next → AreClosed next
-still_closed line m c (watch.Between w) next is a = subst AreClosed (sym a.2) (subst IsWorld (sym a.1.2) (step_keeps_world w m c is a.1.0))
-still_closed line m c (watch.Marking h) next is a = subst AreClosed (sym a.3) (
-  subst IsWorld (sym (ap (λ (k : Hybrid). k.watch.world) a.1.rest)) (step_keeps_world h.watch.world m c is.0 a.1.can),
-  subst IsWorld (sym (ap (λ (k : Hybrid). k.watch.snapshot) a.1.rest)) is.1,
+-- a task of several in one line
+acts : (line m : ℕ) (k : Task) (p : Watch) → AreClosed p → ((next : Watch) × CanAct line m k p next) ⊎ ((y : Why) × WhyNoAct m k p y)
+acts line m k (watch.Between w) is = elim (can_cases w m k.command) [
+  | inl can ↦ elim (suits_cases k.answer (step w m k.command).1) [
+    | inl done ↦ inl (watch.Between (step w m k.command).0, ((step w m k.command).0, (can, done, refl), refl))
+    | inr undone ↦ inr (why.Answer (step w m k.command).1, (can, refl, undone))
+  ]
+  | inr never ↦ inr (why.CannotApply, never)
+]
+acts line m k (watch.Marking h) is = elim (can_cases h.watch.world m k.command) [
+  | inl can ↦ elim (suits_cases k.answer (step h.watch.world m k.command).1) [
+    | inl done ↦ inl (
+      watch.Marking (after h is.0 line m k.command can),
+      (after h is.0 line m k.command can, watched h is.0 line m k.command can, done, refl),
+    )
+    | inr undone ↦ inr (why.Answer (step h.watch.world m k.command).1, (can, refl, undone))
+  ]
+  | inr never ↦ inr (why.CannotApply, never)
+]
+acts line m k (watch.Ended left) is = elim (can_cases left.world m k.command) [
+  | inl can ↦ elim (suits_cases k.answer (step left.world m k.command).1) [
+    | inl done ↦ inl (watch.Ended (record left { world = (step left.world m k.command).0 }), ((step left.world m k.command).0, (can, done, refl), refl))
+    | inr undone ↦ inr (why.Answer (step left.world m k.command).1, (can, refl, undone))
+  ]
+  | inr never ↦ inr (why.CannotApply, never)
+]
+acts line m k watch.Stopped is = inr (why.Misplaced, refl)
+
+still_closed : (line m : ℕ) (k : Task) (p next : Watch) → AreClosed p → CanAct line m k p next → AreClosed next
+still_closed line m k (watch.Between w) next is a =
+    subst AreClosed (sym a.2) (subst IsWorld (sym a.1.2) (step_keeps_world w m k.command is a.1.0))
+still_closed line m k (watch.Marking h) next is a = subst AreClosed (sym a.3) (
+  subst IsWorld (sym (ap (λ (x : Hybrid). x.watch.world) a.1.rest)) (step_keeps_world h.watch.world m k.command is.0 a.1.can),
+  subst IsWorld (sym (ap (λ (x : Hybrid). x.watch.snapshot) a.1.rest)) is.1,
 )
-still_closed line m c (watch.Ended left) next is a = subst AreClosed (sym a.2) (subst IsWorld (sym a.1.2) (step_keeps_world left.world m c is a.1.0))
-still_closed line m c watch.Stopped next is a = absurd a
+still_closed line m k (watch.Ended left) next is a =
+    subst AreClosed (sym a.2) (subst IsWorld (sym a.1.2) (step_keeps_world left.world m k.command is a.1.0))
+still_closed line m k watch.Stopped next is a = absurd a
 
-all_acts : (line m : ℕ) (commands : List Command) (p : Watch) → AreClosed p → ((next : Watch) × AreDone line m commands p next) ⊎
-    ((y : Why) × (last : Watch) × StopsAt line m commands p y last)
+all_acts : (line m : ℕ) (tasks : List Task) (p : Watch) → AreClosed p → ((next : Watch) × AreDone line m tasks p next) ⊎
+    ((y : Why) × (last : Watch) × StopsAt line m tasks p y last)
 all_acts line m [] p is = inl (p, refl)
-all_acts line m (c ∷ cs) p is = elim (acts line m c p is) [
-  | inl a ↦ elim (all_acts line m cs a.0 (still_closed line m c p a.0 is a.1)) [
+all_acts line m (k ∷ ks) p is = elim (acts line m k p is) [
+  | inl a ↦ elim (all_acts line m ks a.0 (still_closed line m k p a.0 is a.1)) [
     | inl d ↦ inl (d.0, (a.0, a.1, d.1))
     | inr s ↦ inr (
       s.0,
       s.1,
       record {
-        before = c ∷ s.2.before;
-        command = s.2.command;
+        before = k ∷ s.2.before;
+        task = s.2.task;
         later = s.2.later;
-        commands_are = ap (λ (l : List Command). c ∷ l) s.2.commands_are;
+        tasks_are = ap (λ (l : List Task). k ∷ l) s.2.tasks_are;
         done = (a.0, a.1, s.2.done);
         reason = s.2.reason;
       },
     )
   ]
-  | inr r ↦ inr (r.0, p, record { before = []; command = c; later = cs; commands_are = refl; done = refl; reason = r.1 })
+  | inr r ↦ inr (r.0, p, record { before = []; task = k; later = ks; tasks_are = refl; done = refl; reason = r.1 })
 ]
 
-some_rows : (line m : ℕ) (commands : List Command) (p : Watch) → AreClosed p → ((next : Watch) × ((m < mutators_of p) × AreDone line m commands p next)) ⊎
-    ((y : Why) × ((line' : ℕ) × (last : Watch) × (StopsAt line' m commands p y last ⊎ IsAbsent m p y last)))
-some_rows line m commands p is = elim (cases_lt m (mutators_of p)) [
-  | inl lt ↦ elim (all_acts line m commands p is) [ inl d ↦ inl (d.0, (lt, d.1)) | inr s ↦ inr (s.0, (line, s.1, inl s.2)) ]
+some_rows : (line m : ℕ) (borrowed : List ℕ) (tasks : List Task) (p : Watch) → AreClosed p → ((next : Watch) × AreRows line m borrowed tasks p next) ⊎
+    ((y : Why) × ((line' : ℕ) × (last : Watch) × (IsStopped line' m borrowed tasks p y last ⊎ IsAbsent m p y last)))
+some_rows line m borrowed tasks p is = elim (cases_lt m (mutators_of p)) [
+  | inl lt ↦ elim (all_acts line m tasks p is) [
+    | inl d ↦ inl (put_back m (registers_in m p) borrowed d.0, (lt, (d.0, d.1, refl)))
+    | inr s ↦ inr (s.0, (line, put_back m (registers_in m p) borrowed s.1, inl (s.1, s.2, refl)))
+  ]
   | inr le ↦ inr (why.CannotApply, (line, p, inr (refl, (λ lt. let l : m < mutators_of p = lt in omega arith), refl)))
 ]
 
-rows : (line m : ℕ) (commands : List Command) (p : Watch) → AreClosed p → Judged line p (event.Rows m commands)
-rows line m commands (watch.Between w) is = some_rows line m commands (watch.Between w) is
-rows line m commands (watch.Marking h) is = some_rows line m commands (watch.Marking h) is
-rows line m commands (watch.Ended left) is = some_rows line m commands (watch.Ended left) is
-rows line m commands watch.Stopped is = inr (why.Misplaced, (line, watch.Stopped, (refl, refl)))
+rows : (line m : ℕ) (borrowed : List ℕ) (tasks : List Task) (p : Watch) → AreClosed p → Judged line p (event.Rows m borrowed tasks)
+rows line m borrowed tasks (watch.Between w) is = some_rows line m borrowed tasks (watch.Between w) is
+rows line m borrowed tasks (watch.Marking h) is = some_rows line m borrowed tasks (watch.Marking h) is
+rows line m borrowed tasks (watch.Ended left) is = some_rows line m borrowed tasks (watch.Ended left) is
+rows line m borrowed tasks watch.Stopped is = inr (why.Misplaced, (line, watch.Stopped, (refl, refl)))
 
 -- a value that goes from mutator to mutator
 hand : (line : ℕ) (k : Hand) (answer : Reply) (p : Watch) → Judged line p (event.Hand k answer)
@@ -216,9 +229,9 @@ counts m (watch.Ended left) lt = (watch.Ended left, inr (refl, tt))
 counts m watch.Stopped lt = (watch.Stopped, inr (refl, tt))
 
 exit : (line m : ℕ) (p : Watch) → AreClosed p → Judged line p (event.Exit m)
-exit line m p is = elim (rows line m (emptied REGISTERS) p is) [
+exit line m p is = elim (rows line m [] (emptied REGISTERS) p is) [
   | inl r ↦
-      let s : (next : Watch) × CountsAsScanned m r.0 next = counts m r.0 (rows_place line m (emptied REGISTERS) p r.0 r.1) in
+      let s : (next : Watch) × CountsAsScanned m r.0 next = counts m r.0 (rows_place line m [] (emptied REGISTERS) p r.0 r.1) in
       inl (s.0, (r.0, r.1, s.1))
   | inr w ↦ inr (w.0, w.1)
 ]
@@ -633,7 +646,7 @@ stop line watch.Stopped = inr (why.Misplaced, refl)
 
 pub every_event_is_judged : EveryEventIsJudged
 every_event_is_judged line p (event.Given m c answer) is = given line m c answer p is
-every_event_is_judged line p (event.Rows m commands) is = rows line m commands p is
+every_event_is_judged line p (event.Rows m borrowed tasks) is = rows line m borrowed tasks p is
 every_event_is_judged line p (event.Hand k answer) is = hand line k answer p
 every_event_is_judged line p event.Mark is = mark line p
 every_event_is_judged line p event.MarkShared is = mark_shared line p

@@ -1,5 +1,6 @@
 pub mod AccountLaws
 pub mod Blacks
+pub mod Borrowed
 pub mod Broken
 pub mod ClosingLaws
 pub mod Counting

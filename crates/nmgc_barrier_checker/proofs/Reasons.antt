@@ -147,13 +147,13 @@ no_stop watch.Stopped y next h g = g
 
 pub reasons_refuse : ReasonsRefuse
 reasons_refuse line p (event.Given m c answer) y next h g = no_give line m c answer p y next h g
-reasons_refuse line p (event.Rows m commands) y next h g = no_rows line m commands p next y h g
+reasons_refuse line p (event.Rows m borrowed tasks) y next h g = no_rows line m borrowed tasks p next y h g
 reasons_refuse line p (event.Hand k answer) y next h g = no_give_over line k answer p y next h g
 reasons_refuse line p event.Mark y next h g = no_mark p y next h g
 reasons_refuse line p event.MarkShared y next h g = no_mark_shared p y next h g
 reasons_refuse line p (event.Scan m) y next h g = no_scan m p y next h g
 reasons_refuse line p (event.Push name) y next h g = no_push name p y next h g
-reasons_refuse line p (event.Exit m) y next h g = no_rows line m (emptied REGISTERS) p g.0 y h g.1
+reasons_refuse line p (event.Exit m) y next h g = no_rows line m [] (emptied REGISTERS) p g.0 y h g.1
 reasons_refuse line p (event.Settle m) y next h g = no_settle m p y next h g
 reasons_refuse line p (event.Take name) y next h g = no_take name p y next h g
 reasons_refuse line p event.Close y next h g = no_close p y next h g

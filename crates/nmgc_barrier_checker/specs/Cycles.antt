@@ -5,7 +5,7 @@ use Rattle.nmgc_graph.specs.{Marks.mark_of, Search.parts_of}
 use Rattle.nmgc_barrier_laws.specs.{declared.debt.Debt.Debt, Cycle.Cycle, Cycle.OwesBy, Cycle.IsPushed, Cycle.IsTook, Cycle.IsAllTaken, Cycle.AreKeysLeft, Hybrid.Hybrid, Hybrid.is_scanned, Hybrid.IsWatchedIn, Hybrid.CanHand, Hybrid.IsHandedOver, Hybrid.IsScanned, Hybrid.held_names}
 use Rattle.nmgc_world_spec.specs.declared.command.Reply.TheVariants as reply
 use Rattle.nmgc_snapshot_laws.specs.Machine.{is_pushed_in}
-use Rattle.nmgc_barrier_checker.specs.{declared.hand.Hand.Hand, declared.accounts.Accounts.Accounts, declared.name_set.NameSet.NameSet, declared.event.Why.Why, Accounts.AreAccounts, Accounts.IsLeastIn, First.IsEarliest, First.IsFirstName, NameSet.IsListed, Rows.is_done}
+use Rattle.nmgc_barrier_checker.specs.{declared.hand.Hand.Hand, declared.rows.Task.Task, declared.accounts.Accounts.Accounts, declared.name_set.NameSet.NameSet, declared.event.Why.Why, Accounts.AreAccounts, Accounts.IsLeastIn, First.IsEarliest, First.IsFirstName, NameSet.IsListed, Rows.Suits}
 use Rattle.nmgc_barrier_checker.specs.declared.event.Why.TheVariants as why
 
 -- the invariant of a cycle. Pushed, opened and taken names are lists with sets (`IsListed`), and the debts are in accounts. A
@@ -54,16 +54,16 @@ abbrev pub IsCommand : ℕ → ℕ → Command → Reply → Hybrid → Option W
 IsCommand line m c answer h None next = IsWatchedIn h line m c answer next
 IsCommand line m c answer h (Some w) next = (next ≡ h) × IsWhyNot h.watch.world m c answer w
 
--- the reason why a world doesn't do a command
-abbrev pub IsNotDone : World → ℕ → Command → Why → Type 0
-IsNotDone w m c why.CannotApply = CanApply w m c → ⊥
-IsNotDone w m c (why.Answer r) = CanApply w m c × ((step w m c).1 ≡ r) × (is_done r ≡ false)
-IsNotDone w m c y = ⊥
+-- the reason why a world doesn't do a task: it can't take the command, or its answer doesn't suit the task
+abbrev pub IsNotDone : World → ℕ → Task → Why → Type 0
+IsNotDone w m k why.CannotApply = CanApply w m k.command → ⊥
+IsNotDone w m k (why.Answer r) = CanApply w m k.command × ((step w m k.command).1 ≡ r) × (Suits k.answer r → ⊥)
+IsNotDone w m k y = ⊥
 
--- the outcome of a command with any answer: it was done, or nothing changed and there is a reason
-abbrev pub IsActing : ℕ → ℕ → Command → Hybrid → Option Why → Hybrid → Type 0
-IsActing line m c h None next = IsTaken line m c h next × (is_done (step h.watch.world m c).1 ≡ true)
-IsActing line m c h (Some w) next = (next ≡ h) × IsNotDone h.watch.world m c w
+-- the outcome of a task: it was done, or nothing changed and there is a reason
+abbrev pub IsActing : ℕ → ℕ → Task → Hybrid → Option Why → Hybrid → Type 0
+IsActing line m k h None next = IsTaken line m k.command h next × Suits k.answer (step h.watch.world m k.command).1
+IsActing line m k h (Some w) next = (next ≡ h) × IsNotDone h.watch.world m k w
 
 -- names that a mutator made due at a line, by no command. Names of the snapshot count as opened
 pub record IsMadeDue (line m : ℕ) (names : List Name) (h next : Cycle) : Type 0 where

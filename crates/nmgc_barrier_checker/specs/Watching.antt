@@ -1,14 +1,15 @@
 -- When an event can happen, and why it can't: by the heap and the lax rule alone.
-use Rattle.std.specs.Prelude.{◌≡◌, ◌↔◌, ◌⊎◌, ◌++◌, ℕ, List, [], ◌∷◌, length, map, slice_index_or, Option, Some, None, Result, Ok, Err, IsSome, Contains, Bool, true, false, ◌||◌, ltb, ◌<◌}
-use Rattle.nmgc_world_spec.specs.{declared.value.Name.Name, declared.command.Command.Command, declared.command.Reply.Reply, declared.mutator_state.MutatorState.MutatorState, World.World, World.node_of, World.is_same_name, World.step, World.shared_name, Known.IsWorld, Known.CanApply, Reach.Lists, Reach.IsKept}
+use Rattle.std.specs.Prelude.{◌≡◌, ◌↔◌, ◌⊎◌, ◌++◌, ℕ, List, [], ◌∷◌, length, map, slice_index_or, Option, Some, None, Result, Ok, Err, IsSome, Contains, Bool, true, false, ◌||◌, ltb, ◌<◌, if◌then◌else◌}
+use Rattle.nmgc_world_spec.specs.{declared.value.Name.Name, declared.command.Command.Command, declared.command.Reply.Reply, declared.value.Value.Value, declared.mutator_state.MutatorState.MutatorState, World.World, World.node_of, World.state_of, World.with_register, World.is_same_name, World.step, World.shared_name, Known.AreKnown, Known.IsKnown, Known.IsWorld, Known.CanApply, Reach.Lists, Reach.IsKept}
 use Rattle.nmgc_limits.specs.declared.mutators.TheConstants.{REGISTERS}
 use Rattle.nmgc_snapshot_laws.specs.declared.event.Event.TheVariants as core
 use Rattle.nmgc_snapshot_laws.specs.{State.State, Machine.IsPossible, Closing.IsClosing}
 use Rattle.nmgc_barrier_laws.specs.{declared.debt.Debt.Debt, Barrier.Beside}
 use Rattle.nmgc_barrier_laws.specs.Cycle.{Cycle, IsPushed, IsTook, IsAllTaken, IsEnd, IsEndWith, IsDeadAmong, Needs, MarksName}
 use Rattle.nmgc_barrier_laws.specs.Hybrid.{Hybrid, handed_over, scanned_at_once, beginning, is_scanned, AreScanned, IsWatchedIn, IsScanned, WatchesIn, BesideIn}
-use Rattle.nmgc_barrier_checker.specs.{declared.event.Event.Event, declared.event.Why.Why, declared.hand.Hand.Hand, declared.cycle_result.CycleResult.CycleResult, declared.watch.Watch.Watch, Cycles.IsWhyNot, Cycles.Hands, Cycles.IsWhyNoHand, Cycles.IsGivenOver, Cycles.IsNotDone, Cycles.IsTaken, Cycles.IsNotScanned, Cycles.IsSettled, Cycles.IsUnsettled, Cycles.IsUntakenName, First.IsEarliest, First.IsFirstName, First.StandsFirst, Rows.is_done, Rows.emptied}
+use Rattle.nmgc_barrier_checker.specs.{declared.event.Event.Event, declared.event.Why.Why, declared.hand.Hand.Hand, declared.rows.Task.Task, declared.cycle_result.CycleResult.CycleResult, declared.watch.Watch.Watch, Cycles.IsWhyNot, Cycles.Hands, Cycles.IsWhyNoHand, Cycles.IsGivenOver, Cycles.IsNotDone, Cycles.IsTaken, Cycles.IsNotScanned, Cycles.IsSettled, Cycles.IsUnsettled, Cycles.IsUntakenName, First.IsEarliest, First.IsFirstName, First.StandsFirst, Rows.Suits, Rows.emptied}
 use Rattle.nmgc_world_spec.specs.declared.command.Reply.TheVariants as reply
+use Rattle.nmgc_world_spec.specs.declared.value.Value.TheVariants as value
 use Rattle.nmgc_barrier_checker.specs.declared.event.Event.TheVariants as event
 use Rattle.nmgc_barrier_checker.specs.declared.event.Why.TheVariants as why
 use Rattle.nmgc_barrier_checker.specs.declared.watch.Watch.TheVariants as watch
@@ -56,52 +57,53 @@ WhyNotGivenOver k answer (watch.Marking h) y = IsWhyNoHand h.watch.world k answe
 WhyNotGivenOver k answer (watch.Ended left) y = IsWhyNoHand left.world k answer y
 WhyNotGivenOver k answer watch.Stopped y = y ≡ why.Misplaced
 
--- a world does a command, with any reply that means that it was done
-abbrev pub IsDone : World → ℕ → Command → World → Type 0
-IsDone w m c next = CanApply w m c × (is_done (step w m c).1 ≡ true) × (next ≡ (step w m c).0)
+-- a world does a task, with an answer that suits it
+abbrev pub IsDone : World → ℕ → Task → World → Type 0
+IsDone w m k next = CanApply w m k.command × Suits k.answer (step w m k.command).1 × (next ≡ (step w m k.command).0)
 
--- the answer of a test whether a world does a command: none if it does, and otherwise the reason
-abbrev pub IsDoneIf : World → ℕ → Command → Option Why → World → Type 0
-IsDoneIf w m c None next = IsDone w m c next
-IsDoneIf w m c (Some y) next = (next ≡ w) × IsNotDone w m c y
+-- the answer of a test whether a world does a task: none if it does, and otherwise the reason
+abbrev pub IsDoneIf : World → ℕ → Task → Option Why → World → Type 0
+IsDoneIf w m k None next = IsDone w m k next
+IsDoneIf w m k (Some y) next = (next ≡ w) × IsNotDone w m k y
 
--- a command among several in one line: the heap does it; in a cycle, the names that it makes due are due since this line
-abbrev pub CanAct : ℕ → ℕ → Command → Watch → Watch → Type 0
-CanAct line m c (watch.Between w) next = (after : World) × IsDone w m c after × (next ≡ watch.Between after)
-CanAct line m c (watch.Marking h) next = (after : Hybrid) × IsTaken line m c h after × (is_done (step h.watch.world m c).1 ≡ true) × (next ≡ watch.Marking after)
-CanAct line m c (watch.Ended left) next = (after : World) × IsDone left.world m c after × (next ≡ watch.Ended (record left { world = after }))
-CanAct line m c watch.Stopped next = ⊥
+-- a task among several in one line: the heap does it; in a cycle, the names that it makes due are due since this line
+abbrev pub CanAct : ℕ → ℕ → Task → Watch → Watch → Type 0
+CanAct line m k (watch.Between w) next = (after : World) × IsDone w m k after × (next ≡ watch.Between after)
+CanAct line m k (watch.Marking h) next = (after : Hybrid) × IsTaken line m k.command h after × Suits k.answer (step h.watch.world m k.command).1 ×
+    (next ≡ watch.Marking after)
+CanAct line m k (watch.Ended left) next = (after : World) × IsDone left.world m k after × (next ≡ watch.Ended (record left { world = after }))
+CanAct line m k watch.Stopped next = ⊥
 
--- the reasons why one of several commands can't have been done: the heap can't take it or doesn't do it, or the watch stopped
-abbrev pub WhyNoAct : ℕ → Command → Watch → Why → Type 0
-WhyNoAct m c (watch.Between w) y = IsNotDone w m c y
-WhyNoAct m c (watch.Marking h) y = IsNotDone h.watch.world m c y
-WhyNoAct m c (watch.Ended left) y = IsNotDone left.world m c y
-WhyNoAct m c watch.Stopped y = y ≡ why.Misplaced
+-- the reasons why one of several tasks can't have been done: the heap can't take it or doesn't do it, or the watch stopped
+abbrev pub WhyNoAct : ℕ → Task → Watch → Why → Type 0
+WhyNoAct m k (watch.Between w) y = IsNotDone w m k y
+WhyNoAct m k (watch.Marking h) y = IsNotDone h.watch.world m k y
+WhyNoAct m k (watch.Ended left) y = IsNotDone left.world m k y
+WhyNoAct m k watch.Stopped y = y ≡ why.Misplaced
 
--- the outcome of one of several commands in a line: it was done, or nothing changed and there is a reason
-abbrev pub IsAct : ℕ → ℕ → Command → Watch → Option Why → Watch → Type 0
-IsAct line m c p None next = CanAct line m c p next
-IsAct line m c p (Some y) next = (next ≡ p) × WhyNoAct m c p y
+-- the outcome of one of several tasks in a line: it was done, or nothing changed and there is a reason
+abbrev pub IsAct : ℕ → ℕ → Task → Watch → Option Why → Watch → Type 0
+IsAct line m k p None next = CanAct line m k p next
+IsAct line m k p (Some y) next = (next ≡ p) × WhyNoAct m k p y
 
--- the commands of one line are done, one after the other
-abbrev pub AreDone : ℕ → ℕ → List Command → Watch → Watch → Type 0
+-- the tasks of one line are done, one after the other
+abbrev pub AreDone : ℕ → ℕ → List Task → Watch → Watch → Type 0
 AreDone line m [] p next = next ≡ p
-AreDone line m (c ∷ cs) p next = (between : Watch) × CanAct line m c p between × AreDone line m cs between next
+AreDone line m (k ∷ ks) p next = (between : Watch) × CanAct line m k p between × AreDone line m ks between next
 
--- the commands before this one were done, and this one couldn't be done, for this reason
-pub record StopsAt (line m : ℕ) (commands : List Command) (p : Watch) (y : Why) (last : Watch) : Type 0 where
-  pub before : List Command
-  pub command : Command
-  pub later : List Command
-  pub commands_are : commands ≡ before ++ command ∷ later
+-- the tasks before this one were done, and this one couldn't be done, for this reason
+pub record StopsAt (line m : ℕ) (tasks : List Task) (p : Watch) (y : Why) (last : Watch) : Type 0 where
+  pub before : List Task
+  pub task : Task
+  pub later : List Task
+  pub tasks_are : tasks ≡ before ++ task ∷ later
   pub done : AreDone line m before p last
-  pub reason : WhyNoAct m command last y
+  pub reason : WhyNoAct m task last y
 
--- the outcome of several commands: all were done, or one couldn't be done and those before it were
-abbrev pub AreActed : ℕ → ℕ → List Command → Watch → Option Why → Watch → Type 0
-AreActed line m commands p None next = AreDone line m commands p next
-AreActed line m commands p (Some y) next = StopsAt line m commands p y next
+-- the outcome of several tasks: all were done, or one couldn't be done and those before it were
+abbrev pub AreActed : ℕ → ℕ → List Task → Watch → Option Why → Watch → Type 0
+AreActed line m tasks p None next = AreDone line m tasks p next
+AreActed line m tasks p (Some y) next = StopsAt line m tasks p y next
 
 -- whether the watch has stopped
 abbrev pub is_stopped : Watch → Bool
@@ -127,20 +129,76 @@ mutators_of (watch.Marking h) = length h.watch.world.mutators
 mutators_of (watch.Ended left) = length left.world.mutators
 mutators_of watch.Stopped = 0
 
--- several commands in one line, before the stop: the mutator exists, and each can be done after the commands before it
-abbrev pub CanRows : ℕ → ℕ → List Command → Watch → Watch → Type 0
-CanRows line m commands watch.Stopped next = ⊥
-CanRows line m commands p next = (m < mutators_of p) × AreDone line m commands p next
+-- the registers of a mutator in the heap of a watch; none after the stop
+abbrev pub registers_in : ℕ → Watch → List Value
+registers_in m (watch.Between w) = (state_of w m).registers
+registers_in m (watch.Marking h) = (state_of h.watch.world m).registers
+registers_in m (watch.Ended left) = (state_of left.world m).registers
+registers_in m watch.Stopped = []
+
+-- the world with a value in a register of the mutator, if there is such a register
+abbrev pub with_value : World → ℕ → ℕ → Value → World
+with_value w m r v = if ltb r REGISTERS then with_register w m r v else w
+
+-- the watch with a value in a register of the mutator, without a command
+abbrev pub put : ℕ → ℕ → Value → Watch → Watch
+put m r v (watch.Between w) = watch.Between (with_value w m r v)
+put m r v (watch.Marking h) = watch.Marking (record h { watch = record h.watch { world = with_value h.watch.world m r v } })
+put m r v (watch.Ended left) = watch.Ended (record left { world = with_value left.world m r v })
+put m r v watch.Stopped = watch.Stopped
+
+-- the watch after the borrowed registers of a mutator got back the values that are in this list
+abbrev pub put_back : ℕ → List Value → List ℕ → Watch → Watch
+put_back m held [] p = p
+put_back m held (r ∷ rs) p = put_back m held rs (put m r (slice_index_or held r value.Nil) p)
+
+-- for private contracts: the heap of the watch has the name of this value, or of these values, if there is one
+abbrev pub IsKnownIn : Watch → Value → Type 0
+IsKnownIn (watch.Between w) v = IsKnown w v
+IsKnownIn (watch.Marking h) v = IsKnown h.watch.world v
+IsKnownIn (watch.Ended left) v = IsKnown left.world v
+IsKnownIn watch.Stopped v = Unit {0}
+
+abbrev pub AreKnownIn : Watch → List Value → Type 0
+AreKnownIn (watch.Between w) values = AreKnown w values
+AreKnownIn (watch.Marking h) values = AreKnown h.watch.world values
+AreKnownIn (watch.Ended left) values = AreKnown left.world values
+AreKnownIn watch.Stopped values = Unit {0}
+
+-- for private contracts: the values in a mutator's registers, or none exactly if there is no such mutator
+abbrev pub AreHeldIn : ℕ → World → Option (List Value) → Type 0
+AreHeldIn m w None = m < length w.mutators → ⊥
+AreHeldIn m w (Some held) = (m < length w.mutators) × (held ≡ (state_of w m).registers) × AreKnown w held
+
+abbrev pub AreHeldIf : ℕ → Watch → Option (List Value) → Type 0
+AreHeldIf m (watch.Between w) held = AreHeldIn m w held
+AreHeldIf m (watch.Marking h) held = AreHeldIn m h.watch.world held
+AreHeldIf m (watch.Ended left) held = AreHeldIn m left.world held
+AreHeldIf m watch.Stopped held = Unit {0}
+
+-- the tasks of one line and the registers that it borrows: the mutator exists, and each task can be done after the tasks
+-- before it. Then the borrowed registers get back the values that they had before
+abbrev pub AreRows : ℕ → ℕ → List ℕ → List Task → Watch → Watch → Type 0
+AreRows line m borrowed tasks p next = (m < mutators_of p) × ((last : Watch) × AreDone line m tasks p last × (next ≡ put_back m (registers_in m p) borrowed last))
+
+-- several tasks in one line, before the stop
+abbrev pub CanRows : ℕ → ℕ → List ℕ → List Task → Watch → Watch → Type 0
+CanRows line m borrowed tasks watch.Stopped next = ⊥
+CanRows line m borrowed tasks p next = AreRows line m borrowed tasks p next
 
 -- there is no such mutator, so nothing changes
 abbrev pub IsAbsent : ℕ → Watch → Why → Watch → Type 0
 IsAbsent m p y last = (y ≡ why.CannotApply) × (m < mutators_of p → ⊥) × (last ≡ p)
 
--- the reasons why several commands can't happen: one of them couldn't be done, there is no such mutator, or the watch has
--- stopped. The effect of the commands before the refused command stays
-abbrev pub WhyRows : ℕ → ℕ → List Command → Watch → Why → Watch → Type 0
-WhyRows line m commands watch.Stopped y last = (y ≡ why.Misplaced) × (last ≡ watch.Stopped)
-WhyRows line m commands p y last = StopsAt line m commands p y last ⊎ IsAbsent m p y last
+-- one of the tasks couldn't be done, and then the borrowed registers got their values back
+abbrev pub IsStopped : ℕ → ℕ → List ℕ → List Task → Watch → Why → Watch → Type 0
+IsStopped line m borrowed tasks p y next = (last : Watch) × StopsAt line m tasks p y last × (next ≡ put_back m (registers_in m p) borrowed last)
+
+-- the reasons why several tasks can't happen: one of them couldn't be done, there is no such mutator, or the watch has
+-- stopped. The effect of the tasks before the refused task stays
+abbrev pub WhyRows : ℕ → ℕ → List ℕ → List Task → Watch → Why → Watch → Type 0
+WhyRows line m borrowed tasks watch.Stopped y next = (y ≡ why.Misplaced) × (next ≡ watch.Stopped)
+WhyRows line m borrowed tasks p y next = IsStopped line m borrowed tasks p y next ⊎ IsAbsent m p y next
 
 -- the beginning of marking, outside of a cycle: the world is the snapshot, and all mutators are scanned
 abbrev pub CanMark : Watch → Watch → Type 0
@@ -190,7 +248,7 @@ CountsAsScanned m p next = CanScan m p next ⊎ ((next ≡ p) × NeedsNoScan m p
 
 -- the end of a mutator, before the stop: all its registers are emptied, and then it counts as scanned
 abbrev pub CanExit : ℕ → ℕ → Watch → Watch → Type 0
-CanExit line m p next = (between : Watch) × CanRows line m (emptied REGISTERS) p between × CountsAsScanned m between next
+CanExit line m p next = (between : Watch) × CanRows line m [] (emptied REGISTERS) p between × CountsAsScanned m between next
 
 -- a push in a cycle: of any name that the heap has, due or not, and at any time
 abbrev pub CanPush : Name → Watch → Watch → Type 0
@@ -481,8 +539,8 @@ WhyStop (watch.Marking h) y = y ≡ why.Misplaced
 WhyStop (watch.Ended left) y = ⊥
 WhyStop watch.Stopped y = y ≡ why.Misplaced
 
--- an event of a line can happen in a state, with the state after it. Several commands: each is done after the commands before
--- it. A hand: the heap can hand the value over. A settle: this mutator has no debt. A take: the name was pushed and is in the
+-- an event of a line can happen in a state, with the state after it. Several tasks: each is done after the tasks before it, and
+-- then the borrowed registers get their values back. A hand: the heap can hand the value over. A settle: this mutator has no debt. A take: the name was pushed and is in the
 -- snapshot. A close: there are no debts, and if takes are reported, all pushed names except g were taken. A close that reports
 -- which weak pointers die: each is dead if exactly these die. Either close: all mutators are scanned. A scan: this mutator
 -- isn't scanned. An exit: the mutator's registers are emptied, and it counts as scanned. Marked: exactly the names that the
@@ -490,7 +548,7 @@ WhyStop watch.Stopped y = y ≡ why.Misplaced
 -- neither the commands nor a weak pointer that lives on need. A stop: a cycle has ended
 abbrev pub Can : ℕ → Watch → Event → Watch → Type 0
 Can line p (event.Given m c answer) next = CanGive line m c answer p next
-Can line p (event.Rows m commands) next = CanRows line m commands p next
+Can line p (event.Rows m borrowed tasks) next = CanRows line m borrowed tasks p next
 Can line p (event.Hand k answer) next = CanGiveOver line k answer p next
 Can line p event.Mark next = CanMark p next
 Can line p event.MarkShared next = CanMarkShared p next
@@ -509,13 +567,13 @@ Can line p event.Stop next = CanStop p next
 -- the reasons why an event can't happen, for each kind of event: each is a fact of the state and the event
 abbrev pub IsWhy : Watch → Event → Why → Type 0
 IsWhy p (event.Given m c answer) y = WhyGive m c answer p y
-IsWhy p (event.Rows m commands) y = (line : ℕ) × (last : Watch) × WhyRows line m commands p y last
+IsWhy p (event.Rows m borrowed tasks) y = (line : ℕ) × (last : Watch) × WhyRows line m borrowed tasks p y last
 IsWhy p (event.Hand k answer) y = WhyNotGivenOver k answer p y
 IsWhy p event.Mark y = WhyMark p y
 IsWhy p event.MarkShared y = WhyMark p y
 IsWhy p (event.Scan m) y = WhyScan m p y
 IsWhy p (event.Push name) y = WhyPush name p y
-IsWhy p (event.Exit m) y = (line : ℕ) × (last : Watch) × WhyRows line m (emptied REGISTERS) p y last
+IsWhy p (event.Exit m) y = (line : ℕ) × (last : Watch) × WhyRows line m [] (emptied REGISTERS) p y last
 IsWhy p (event.Settle m) y = WhySettle m p y
 IsWhy p (event.Take name) y = WhyTake name p y
 IsWhy p event.Close y = WhyClose p y
@@ -525,10 +583,10 @@ IsWhy p (event.Black names) y = WhyBlack names p y
 IsWhy p (event.Freed names) y = WhyFreed names p y
 IsWhy p event.Stop y = WhyStop p y
 
--- the state after a refused event: nothing changes, except that several commands of a line are done up to the refused command
+-- the state after a refused event: nothing changes, except that several tasks of a line are done up to the refused task
 abbrev pub Leaves : ℕ → Watch → Event → Why → Watch → Type 0
-Leaves line p (event.Rows m commands) y next = WhyRows line m commands p y next
-Leaves line p (event.Exit m) y next = WhyRows line m (emptied REGISTERS) p y next
+Leaves line p (event.Rows m borrowed tasks) y next = WhyRows line m borrowed tasks p y next
+Leaves line p (event.Exit m) y next = WhyRows line m [] (emptied REGISTERS) p y next
 Leaves line p e y next = next ≡ p
 
 -- a step: the event happened; or there is a reason, and only the commands of the line before the refused command were done

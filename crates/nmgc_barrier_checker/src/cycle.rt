@@ -20,7 +20,7 @@ use crate::due::{
 use crate::event::Why;
 use crate::hand::{Hand, can_hand, given_names};
 use crate::name_set::NameSet;
-use crate::rows::is_done;
+use crate::rows::{Task, suits};
 use crate::sorted_names::is_before;
 use nmgc_barrier_laws::Debt;
 use nmgc_graph::World;
@@ -143,27 +143,27 @@ impl Cycle {
         Ok(None)
     }
 
-    /// Does a mutator's command if the heap takes it with an answer that means done, or returns why not and changes nothing.
-    /// Adds the number of names that came due to `dues`.
+    /// Does a mutator's task if the heap takes it with an answer that suits it, or returns why not and changes nothing. Adds the
+    /// number of names that came due to `dues`.
     pub fn act(
         &mut self,
         scans: &[bool],
         line: usize,
         mutator: u8,
-        command: &Command,
+        task: &Task,
         dues: &mut u64,
     ) -> Result<Option<Why>, NoMemory>
-        ensures dues { IfOk result (λ why. IsAddedIf (IsDueIn (with_scans scans.now self.old) mutator command.now) why dues.old dues.new) }
-        ensures command { IfOk result (λ why. IsActing line mutator command.now (with_scans scans.now self.old) why (with_scans scans.now self.new)) }
+        ensures dues { IfOk result (λ why. IsAddedIf (IsDueIn (with_scans scans.now self.old) mutator task.now.command) why dues.old dues.new) }
+        ensures command { IfOk result (λ why. IsActing line mutator task.now (with_scans scans.now self.old) why (with_scans scans.now self.new)) }
     {
-        if !self.world.can_apply(mutator, command) {
+        if !self.world.can_apply(mutator, &task.command) {
             return Ok(Some(Why::CannotApply));
         }
-        let reply = self.world.reply(mutator, command);
-        if !is_done(reply) {
+        let reply = self.world.reply(mutator, &task.command);
+        if !suits(task.answer, reply) {
             return Ok(Some(Why::Answer(reply)));
         }
-        self.give(scans, line, mutator, command, dues)?;
+        self.give(scans, line, mutator, &task.command, dues)?;
         Ok(None)
     }
 
@@ -268,7 +268,7 @@ impl Cycle {
     }
 
     // Writes a known value into a register of a mutator.
-    fn set_register(&mut self, mutator: u8, register: u8, value: Value)
+    pub(crate) fn set_register(&mut self, mutator: u8, register: u8, value: Value)
         requires mutator { mutator < length self.old.world.mutators }
         requires register { IsRegister register }
         requires known { IsKnown self.old.world value }

@@ -1,5 +1,6 @@
 //! The events of a trace, and the reasons why an event can't have happened.
 use crate::hand::Hand;
+use crate::rows::Task;
 use nmgc_barrier_laws::Debt;
 use nmgc_lists::List;
 use nmgc_world_spec::{Command, Name, Reply};
@@ -13,11 +14,12 @@ pub enum Event {
         command: Command,
         answer: Reply,
     },
-    /// A mutator gave these commands, one after the other, and each was done: its answer was a value, or there was none to
-    /// give (`rows`). A command with another answer doesn't count as done, even if it wrote, as an exchange that answers yes.
+    /// A mutator did these tasks, one after the other (`rows`). Then the borrowed registers got back the values that they had
+    /// before. So a register of the trace may be used for a value that no register of the runtime holds.
     Rows {
         mutator: u8,
-        commands: List<Command>,
+        borrowed: List<u8>,
+        tasks: List<Task>,
     },
     /// A value went from mutator to mutator, with this answer. The heap answers `Fine`.
     Hand {
@@ -75,9 +77,9 @@ pub enum Event {
 pub enum Why {
     /// No event of this kind can happen here: in a cycle, between cycles, or after the stop. Or a mutator is scanned already.
     Misplaced,
-    /// There is no such mutator (also for a settle, or for zero commands in a line) or register, or there is no serial left.
+    /// There is no such mutator (also for a settle, or for zero tasks in a line) or register, or there is no serial left.
     CannotApply,
-    /// The heap gives this answer. It isn't the event's, or doesn't mean that the command in a line of several was done.
+    /// The heap gives this answer. It isn't the event's, or doesn't suit the task in a line of several (`rows`).
     Answer(Reply),
     /// The heap has no such name.
     NoSuchName(Name),

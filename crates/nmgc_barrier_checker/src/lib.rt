@@ -8,7 +8,7 @@
 //! - `event`: the events, and the reasons. `watch`: the state of a runtime, event by event, over any number of cycles.
 //! - `cycle`: one cycle. `closing`: its end. `cycle_result`: its result, compared with the names that the runtime marked or
 //!   freed. `sorted_names`: names that are found by a binary search. `hand`: values that go past all objects.
-//! - `accounts`: the debts of each mutator. `name_set`: names, each once. `rows`: copies and fills.
+//! - `accounts`: the debts of each mutator. `name_set`: names, each once. `rows`: several commands in one line, such as copies and fills.
 //! - `due`: the names that a command makes due (`nmgc_graph::opened` has opened and finalised names).
 //! - `laws`: each event can happen or has a reason against it, never both; and a cycle that closes without debts is exact.
 //!
@@ -33,6 +33,6 @@ pub use cycle_result::CycleResult;
 pub use due::Field;
 pub use event::{Event, Why};
 pub use hand::Hand;
-pub use rows::{Copying, Filling};
+pub use rows::{Copying, Filling, Task};
 pub use sorted_names::SortedNames;
 pub use watch::{Running, Watch};

@@ -1,15 +1,22 @@
-//! Several commands in one line: a copy of many fields, and a fill. A copy goes field by field through a register: each field
-//! is loaded, and then stored. So a copy is a list of commands. It happens only if each command is done, and each may make a
-//! name due. A runtime that copies within one object goes downwards if the fields move up, and otherwise upwards.
+//! Several commands in one line, as tasks: a copy of many fields, and a fill. A copy goes field by field through a register:
+//! each field is loaded, and then stored. It happens only if each command is done, and each may make a name due. A runtime that copies within one object goes downwards if the fields move up, and otherwise upwards.
 //!
 //! Easy to get wrong: an index above the greatest number becomes the greatest, which no object has, so the heap refuses it.
-ghost use Rattle.std.specs.Prelude.{◌≡◌, ◌<◌, IfOk};
-ghost use Rattle.nmgc_barrier_checker.specs.Rows.{is_done, turn_place, index_at, load_of, store_of, write_of, copied, filled, emptied};
+ghost use Rattle.std.specs.Prelude.{◌≡◌, ◌<◌, ◌++◌, true, false, IfOk, OnOk};
+ghost use Rattle.nmgc_barrier_checker.specs.Rows.{is_done, Suits, task_of, turn_place, index_at, load_of, store_of, write_of, copied, filled, emptied};
 
 use nmgc_limits::REGISTERS;
 use nmgc_lists::{List, NoMemory};
 use nmgc_world_spec::{Command, Operand, Reply};
 use std::alloc::Global;
+
+/// A command in a line of several, and the answer that the line gives to it. If the line gives none, the command has to be
+/// done: its answer is a value, or there is none to give. An exchange that answers yes doesn't count as done.
+#[derive(Drop)]
+pub struct Task {
+    pub command: Command,
+    pub answer: Option<Reply>,
+}
 
 /// A copy of `count` fields of `from`, from the field `first` on, to the fields of `to` from the field `place` on. Each field
 /// goes through the register `via`. If `down`, the copy goes from the last field to the first.
@@ -33,74 +40,92 @@ pub struct Filling {
     pub value: Operand,
 }
 
-/// Returns the commands of a copy, in order: a load and a store for each field. Takes time and memory for each field.
-pub fn copy_commands(alloc: Global, copying: Copying) -> Result<List<Command>, NoMemory>
-    ensures { IfOk result (λ commands. commands ≡ copied copying copying.count) }
+/// Returns the tasks of a copy, in order: a load and a store for each field. Takes time and memory for each field.
+pub fn copy_tasks(alloc: Global, copying: Copying) -> Result<List<Task>, NoMemory>
+    ensures { IfOk result (λ tasks. tasks ≡ copied copying copying.count) }
 {
-    let mut commands = List::new(alloc);
+    let mut tasks = List::new(alloc);
     for turn in 0..copying.count {
-        commands.push(copy_load(copying, turn))?;
-        commands.push(copy_store(copying, turn))?;
+        tasks.push(copy_load(copying, turn))?;
+        tasks.push(copy_store(copying, turn))?;
     }
-    Ok(commands)
+    Ok(tasks)
 }
 
-/// Returns the commands of a fill: a store for each field. Takes time and memory for each field.
-pub fn fill_commands(alloc: Global, filling: Filling) -> Result<List<Command>, NoMemory>
-    ensures { IfOk result (λ commands. commands ≡ filled filling filling.count) }
+/// Returns the tasks of a fill: a store for each field. Takes time and memory for each field.
+pub fn fill_tasks(alloc: Global, filling: Filling) -> Result<List<Task>, NoMemory>
+    ensures { IfOk result (λ tasks. tasks ≡ filled filling filling.count) }
 {
-    let mut commands = List::new(alloc);
+    let mut tasks = List::new(alloc);
+    add_fill(&mut tasks, filling)?;
+    Ok(tasks)
+}
+
+/// Appends the tasks of a fill. Takes time and memory for each field. After `NoMemory` some may have been appended.
+pub fn add_fill(tasks: &mut List<Task>, filling: Filling) -> Result<(), NoMemory>
+    ensures { OnOk result (tasks.new ≡ tasks.old ++ filled filling filling.count) }
+{
     for turn in 0..filling.count {
-        commands.push(fill_store(filling, turn))?;
+        tasks.push(fill_store(filling, turn))?;
     }
-    Ok(commands)
+    Ok(())
 }
 
-/// Returns the commands that empty all registers of a mutator, in order. Takes time and memory for each register.
+/// Returns the tasks that empty all registers of a mutator, in order. Takes time and memory for each register.
 #[tactic(auto, unfolding(crate::specs::Rows::emptied))]
-pub fn nil_commands(alloc: Global) -> Result<List<Command>, NoMemory>
-    ensures { IfOk result (λ commands. commands ≡ emptied REGISTERS) }
+pub fn nil_tasks(alloc: Global) -> Result<List<Task>, NoMemory>
+    ensures { IfOk result (λ tasks. tasks ≡ emptied REGISTERS) }
 {
-    let mut commands = List::new(alloc);
+    let mut tasks = List::new(alloc);
     for register in 0..REGISTERS {
-        commands.push(Command::Nil { dest: register })?;
+        tasks.push(task_of(Command::Nil { dest: register }))?;
     }
-    Ok(commands)
+    Ok(tasks)
+}
+
+/// Returns the task of a command that has to be done, whatever it gives.
+pub fn task_of(command: Command) -> Task
+    ensures { result ≡ task_of command }
+{
+    Task {
+        command,
+        answer: None,
+    }
 }
 
 // Returns the load in step `turn` of a copy. Requires that the copy has that step, from 0 on.
-fn copy_load(copying: Copying, turn: u32) -> Command
+fn copy_load(copying: Copying, turn: u32) -> Task
     requires { turn < copying.count }
     ensures { result ≡ load_of copying turn }
 {
-    Command::Get {
+    task_of(Command::Get {
         dest: copying.via,
         object: copying.from,
         index: index_at(copying.first, turn_place(copying, turn)),
-    }
+    })
 }
 
 // Returns the store in step `turn` of a copy. Requires that the copy has that step, from 0 on.
-fn copy_store(copying: Copying, turn: u32) -> Command
+fn copy_store(copying: Copying, turn: u32) -> Task
     requires { turn < copying.count }
     ensures { result ≡ store_of copying turn }
 {
-    Command::Set {
+    task_of(Command::Set {
         object: copying.to,
         index: index_at(copying.place, turn_place(copying, turn)),
         value: Operand::Register(copying.via),
-    }
+    })
 }
 
 // Returns the store in step `turn` of a fill.
-fn fill_store(filling: Filling, turn: u32) -> Command
+fn fill_store(filling: Filling, turn: u32) -> Task
     ensures { result ≡ write_of filling turn }
 {
-    Command::Set {
+    task_of(Command::Set {
         object: filling.object,
         index: index_at(filling.first, turn),
         value: filling.value,
-    }
+    })
 }
 
 // Returns the position, among the fields to be copied, of the field that step `turn` copies. Requires such a step.
@@ -129,5 +154,16 @@ pub(crate) fn is_done(answer: Reply) -> bool
     match answer {
         Reply::Given(_) | Reply::Fine => true,
         _ => false,
+    }
+}
+
+/// Whether an answer suits a task. If the task has an answer, it is the same; if not, it means that the command was done.
+pub(crate) fn suits(wanted: Option<Reply>, answer: Reply) -> bool
+    ensures yes { result ≡ true → Suits wanted answer }
+    ensures no { result ≡ false → Suits wanted answer → ⊥ }
+{
+    match wanted {
+        Some(wanted) => answer == wanted,
+        None => is_done(answer),
     }
 }

@@ -2,11 +2,11 @@
 //! `Can`), and otherwise refused with a reason that is a fact. The roots are read when marking begins, or the registers of
 //! each mutator are read later, at a scan of its own.
 //!
-//! Easy to get wrong: a refused event changes nothing, so a test can go on. But the commands before it in its line stay done.
-ghost use Rattle.std.specs.Prelude.{◌≡◌, ◌↔◌, ◌<◌, ◌≤◌, true, length, replicate, slice_set, IfNone, IfOk, IsTrue};
-ghost use Rattle.nmgc_world_spec.specs.World.{new_world};
+//! Easy to get wrong: a refused event changes nothing, so a test can go on. But the tasks before it in its line stay done.
+ghost use Rattle.std.specs.Prelude.{◌≡◌, ◌↔◌, ◌<◌, ◌≤◌, [], true, length, replicate, slice_set, slice_index_or, IfNone, IfOk, IsTrue};
+ghost use Rattle.nmgc_world_spec.specs.{Known.IsKnown, Known.IsRegister, World.new_world, World.with_register};
 ghost use Rattle.nmgc_barrier_laws.specs.declared.debt.Debt.{Debt as DebtAt};
-ghost use Rattle.nmgc_barrier_checker.specs.{CameDue.AddsDuesIf, CameDue.CountsDuesIf, Rows.emptied, Watching.IsStep, Watching.IsGivenIf, Watching.IsAct, Watching.IsDoneIf, Watching.IsHandIf, Watching.IsOwed, Watching.AreActed, Watching.is_marking, Watching.is_stopped, Watching.mutators_of};
+ghost use Rattle.nmgc_barrier_checker.specs.{CameDue.AddsDuesIf, CameDue.CountsDuesIf, Rows.emptied, Watching.AreHeldIf, Watching.AreHeldIn, Watching.AreKnownIn, Watching.IsKnownIn, Watching.put, Watching.put_back, Watching.IsStep, Watching.IsGivenIf, Watching.IsAct, Watching.IsDoneIf, Watching.IsHandIf, Watching.IsOwed, Watching.AreActed, Watching.is_marking, Watching.is_stopped, Watching.mutators_of};
 ghost use Rattle.nmgc_barrier_checker.specs.declared.event.Event.TheVariants as event;
 ghost use Rattle.nmgc_barrier_checker.specs.declared.watch.Watch.TheVariants as watch;
 
@@ -14,11 +14,11 @@ use crate::cycle::{Cycle, is_set};
 use crate::cycle_result::CycleResult;
 use crate::event::{Event, Why};
 use crate::hand::{Hand, can_hand};
-use crate::rows::{is_done, nil_commands};
+use crate::rows::{Task, nil_tasks, suits};
 use nmgc_graph::World;
 use nmgc_limits::{MAKERS, REGISTERS};
 use nmgc_lists::{List, NoMemory};
-use nmgc_world_spec::{Command, Name, Reply};
+use nmgc_world_spec::{Command, Name, Reply, Value};
 use std::alloc::Global;
 use std::marker::Model;
 
@@ -98,19 +98,29 @@ impl Running {
             .do_command(self.scans.items(), line, mutator, command, answer, dues)
     }
 
-    // Does one of several commands in a line, as `Cycle::act`.
+    // Does one of several tasks in a line, as `Cycle::act`.
     fn act(
         &mut self,
         line: usize,
         mutator: u8,
-        command: &Command,
+        task: &Task,
         dues: &mut u64,
     ) -> Result<Option<Why>, NoMemory>
-        ensures dues { IfOk result (λ why. IsAddedIf (IsDueIn self.old mutator command.now) why dues.old dues.new) }
-        ensures command { IfOk result (λ why. IsActing line mutator command.now self.old why self.new) }
+        ensures dues { IfOk result (λ why. IsAddedIf (IsDueIn self.old mutator task.now.command) why dues.old dues.new) }
+        ensures command { IfOk result (λ why. IsActing line mutator task.now self.old why self.new) }
     {
         self.cycle
-            .act(self.scans.items(), line, mutator, command, dues)
+            .act(self.scans.items(), line, mutator, task, dues)
+    }
+
+    // Writes a known value into a register of a mutator, without a command.
+    fn set_register(&mut self, mutator: u8, register: u8, value: Value)
+        requires mutator { mutator < length self.old.watch.world.mutators }
+        requires register { IsRegister register }
+        requires known { IsKnown self.old.watch.world value }
+        ensures { self.new ≡ record self.old { watch = record self.old.watch { world = with_register self.old.watch.world mutator register value } } }
+    {
+        self.cycle.set_register(mutator, register, value);
     }
 
     // Hands a value over, as `Cycle::do_hand`.
@@ -229,8 +239,8 @@ impl Watch {
     }
 
     /// Takes the event of a line and returns `None`, or refuses it and returns the reason. `line` is any number of the
-    /// caller's, by which a debt is reported. A refused event changes nothing, but several commands in one line
-    /// (`Event::Rows`) are done up to the refused command. If the event happened, the number of names that its commands made
+    /// caller's, by which a debt is reported. A refused event changes nothing, but several tasks in one line
+    /// (`Event::Rows`) are done up to the refused task. If the event happened, the number of names that its commands made
     /// due is added to `dues`: each command counts a name once, pushed or not. After `NoMemory` the watch may be in any state.
     ///
     /// A push, a take and a settled mutator take amortised constant time, and a scan for each register. A command, alone or
@@ -254,9 +264,11 @@ impl Watch {
                 command,
                 answer,
             } => self.give(line, *mutator, command, *answer, dues),
-            Event::Rows { mutator, commands } => {
-                self.do_line(line, *mutator, commands.items(), dues)
-            }
+            Event::Rows {
+                mutator,
+                borrowed,
+                tasks,
+            } => self.do_line(line, *mutator, borrowed.items(), tasks.items(), dues),
             Event::Hand { hand, answer } => self.hand(line, *hand, *answer, dues),
             Event::Mark => self.mark(),
             Event::MarkShared => self.mark_shared(),
@@ -333,32 +345,32 @@ impl Watch {
         }
     }
 
-    // Does the commands of a line in order, up to the first that can't be done, and returns the reason against the line, if
-    // any. Does none if the watch has stopped or there is no such mutator.
+    // Does the tasks of a line in order, up to the first that can't be done, and then puts the values of the borrowed registers
+    // back. Returns the reason against the line, if any. Does nothing if the watch has stopped or there is no such mutator.
+    // Copies the registers only if the line borrows any.
     fn do_line(
         &mut self,
         line: usize,
         mutator: u8,
-        commands: &[Command],
+        borrowed: &[u8],
+        tasks: &[Task],
         dues: &mut u64,
     ) -> Result<Option<Why>, NoMemory>
-        ensures step { IfOk result (λ why. IsStep line self.old (event.Rows mutator commands.now) why self.new) }
-        ensures dues { IfOk result (λ why. CountsDuesIf line self.old (event.Rows mutator commands.now) why dues.old dues.new) }
+        ensures step { IfOk result (λ why. IsStep line self.old (event.Rows mutator borrowed.now tasks.now) why self.new) }
+        ensures dues { IfOk result (λ why. CountsDuesIf line self.old (event.Rows mutator borrowed.now tasks.now) why dues.old dues.new) }
     {
         if self.is_stopped() {
             return Ok(Some(Why::Misplaced));
         }
-        if !self.has_mutator(mutator) {
-            return Ok(Some(Why::CannotApply));
+        if borrowed.is_empty() && mutator < self.mutators() {
+            return self.act_all(line, mutator, tasks, dues);
         }
-        self.act_all(line, mutator, commands, dues)
-    }
-
-    // Whether the heap has a mutator with this number.
-    fn has_mutator(&self, mutator: u8) -> bool
-        ensures { IsTrue result ↔ (mutator < mutators_of self.now) }
-    {
-        mutator < self.mutators()
+        let Some(held) = self.held_values(mutator)? else {
+            return Ok(Some(Why::CannotApply));
+        };
+        let why = self.act_all(line, mutator, tasks, dues)?;
+        self.put_back(mutator, held.items(), borrowed);
+        Ok(why)
     }
 
     // Returns the number of mutators, or 0 after the stop.
@@ -367,9 +379,54 @@ impl Watch {
     {
         match self {
             Watch::Between(world) => world.mutators(),
-            Watch::Marking(running) => running.mutators(),
+            Watch::Marking(running) => running.cycle().world().mutators(),
             Watch::Ended(left) => left.world.mutators(),
             Watch::Stopped => 0,
+        }
+    }
+
+    // Returns the values in a mutator's registers, in order, or `None` if there is no such mutator.
+    fn held_values(&self, mutator: u8) -> Result<Option<List<Value>>, NoMemory>
+        ensures { IfOk result (AreHeldIf mutator self.now) }
+    {
+        match self {
+            Watch::Between(world) => registers_of(world, mutator),
+            Watch::Marking(running) => registers_of(running.cycle().world(), mutator),
+            Watch::Ended(left) => registers_of(&left.world, mutator),
+            Watch::Stopped => Ok(None),
+        }
+    }
+
+    // Puts the values of the borrowed registers back, which are in `held`, by the number of the register. Registers that a
+    // mutator doesn't have are passed over. Requires that the heap has all names in `held`.
+    fn put_back(&mut self, mutator: u8, held: &[Value], borrowed: &[u8])
+        requires mutator { mutator < mutators_of self.old }
+        requires known { AreKnownIn self.old held.now }
+        ensures { self.new ≡ put_back mutator held.now borrowed.now self.old }
+    {
+        for register in borrowed {
+            self.put(mutator, *register, held_value(held, *register));
+        }
+    }
+
+    // Puts a known value into a register of a mutator, if there is such a register. Requires that there is such a mutator.
+    fn put(&mut self, mutator: u8, register: u8, value: Value)
+        requires mutator { mutator < mutators_of self.old }
+        requires known { IsKnownIn self.old value }
+        ensures { self.new ≡ put mutator register value self.old }
+    {
+        if register >= REGISTERS {
+            return;
+        }
+        match self {
+            Watch::Between(world) => {
+                let _fine = world.set_register(mutator, register, value);
+            }
+            Watch::Marking(running) => running.set_register(mutator, register, value),
+            Watch::Ended(left) => {
+                let _fine = left.world.set_register(mutator, register, value);
+            }
+            Watch::Stopped => {}
         }
     }
 
@@ -383,19 +440,19 @@ impl Watch {
         }
     }
 
-    // Does the commands in order up to the first that can't be done, and returns the reason against that command, if any.
+    // Does the tasks in order up to the first that can't be done, and returns the reason against that task, if any.
     fn act_all(
         &mut self,
         line: usize,
         mutator: u8,
-        commands: &[Command],
+        tasks: &[Task],
         dues: &mut u64,
     ) -> Result<Option<Why>, NoMemory>
-        ensures acted { IfOk result (λ why. AreActed line mutator commands.now self.old why self.new) }
-        ensures dues { IfOk result (λ why. CountsDuesIf line self.old (event.Rows mutator commands.now) why dues.old dues.new) }
+        ensures acted { IfOk result (λ why. AreActed line mutator tasks.now self.old why self.new) }
+        ensures dues { IfOk result (λ why. CountsDuesIf line self.old (event.Rows mutator [] tasks.now) why dues.old dues.new) }
     {
-        for command in commands {
-            let why = self.act(line, mutator, command, dues)?;
+        for task in tasks {
+            let why = self.act(line, mutator, task, dues)?;
             if why.is_some() {
                 return Ok(why);
             }
@@ -403,21 +460,21 @@ impl Watch {
         Ok(None)
     }
 
-    // Does one of several commands in a line. If it can't be done, returns the reason and changes nothing.
+    // Does one of several tasks in a line. If it can't be done, returns the reason and changes nothing.
     fn act(
         &mut self,
         line: usize,
         mutator: u8,
-        command: &Command,
+        task: &Task,
         dues: &mut u64,
     ) -> Result<Option<Why>, NoMemory>
-        ensures act { IfOk result (λ why. IsAct line mutator command.now self.old why self.new) }
-        ensures dues { IfOk result (λ why. AddsDuesIf self.old mutator command.now why dues.old dues.new) }
+        ensures act { IfOk result (λ why. IsAct line mutator task.now self.old why self.new) }
+        ensures dues { IfOk result (λ why. AddsDuesIf self.old mutator task.now.command why dues.old dues.new) }
     {
         match self {
-            Watch::Between(world) => act(world, mutator, command),
-            Watch::Marking(running) => running.act(line, mutator, command, dues),
-            Watch::Ended(left) => act(&mut left.world, mutator, command),
+            Watch::Between(world) => act(world, mutator, task),
+            Watch::Marking(running) => running.act(line, mutator, task, dues),
+            Watch::Ended(left) => act(&mut left.world, mutator, task),
             Watch::Stopped => Ok(Some(Why::Misplaced)),
         }
     }
@@ -479,14 +536,15 @@ impl Watch {
         mutator: u8,
         dues: &mut u64,
     ) -> Result<Option<Why>, NoMemory>
-        ensures step { IfOk result (λ why. IsStep line self.old (event.Rows mutator (emptied REGISTERS)) why self.new) }
-        ensures dues { IfOk result (λ why. CountsDuesIf line self.old (event.Rows mutator (emptied REGISTERS)) why dues.old dues.new) }
+        ensures step { IfOk result (λ why. IsStep line self.old (event.Rows mutator [] (emptied REGISTERS)) why self.new) }
+        ensures dues { IfOk result (λ why. CountsDuesIf line self.old (event.Rows mutator [] (emptied REGISTERS)) why dues.old dues.new) }
     {
         let Some(alloc) = self.alloc() else {
             return Ok(Some(Why::Misplaced));
         };
-        let commands = nil_commands(alloc)?;
-        self.do_line(line, mutator, commands.items(), dues)
+        let tasks = nil_tasks(alloc)?;
+        let borrowed = List::new(alloc);
+        self.do_line(line, mutator, borrowed.items(), tasks.items(), dues)
     }
 
     // Returns the allocator of the heap, or `None` after the stop.
@@ -667,17 +725,40 @@ fn hand_over(world: &mut World, hand: Hand, answer: Reply) -> Option<Why>
     None
 }
 
-// Does a command in the world if the world's answer means that it is done. Otherwise changes nothing and returns the reason.
-fn act(world: &mut World, mutator: u8, command: &Command) -> Result<Option<Why>, NoMemory>
-    ensures { IfOk result (λ why. IsDoneIf world.old mutator command.now why world.new) }
+// Does a task in the world if the world's answer suits it. Otherwise changes nothing and returns the reason.
+fn act(world: &mut World, mutator: u8, task: &Task) -> Result<Option<Why>, NoMemory>
+    ensures { IfOk result (λ why. IsDoneIf world.old mutator task.now why world.new) }
 {
-    if !world.can_apply(mutator, command) {
+    if !world.can_apply(mutator, &task.command) {
         return Ok(Some(Why::CannotApply));
     }
-    let reply = world.reply(mutator, command);
-    if !is_done(reply) {
+    let reply = world.reply(mutator, &task.command);
+    if !suits(task.answer, reply) {
         return Ok(Some(Why::Answer(reply)));
     }
-    world.apply(mutator, command)?;
+    world.apply(mutator, &task.command)?;
     Ok(None)
+}
+
+// Returns the values in a mutator's registers, in order, in memory of their own, or `None` if there is no such mutator.
+fn registers_of(world: &World, mutator: u8) -> Result<Option<List<Value>>, NoMemory>
+    ensures { IfOk result (AreHeldIn mutator world.now) }
+{
+    if mutator >= world.mutators() {
+        return Ok(None);
+    }
+    let mut held = Vec::new(world.alloc());
+    held.extend_from_slice(world.registers(mutator))?;
+    let values = List::from_vec(held)?;
+    Ok(Some(values))
+}
+
+// Returns the value of the register with this number, among the values of registers in order, or nil if there is none.
+fn held_value(held: &[Value], register: u8) -> Value
+    ensures { result ≡ slice_index_or held.now register Value.Nil }
+{
+    match held.get(register as usize) {
+        Some(value) => *value,
+        None => Value::Nil,
+    }
 }

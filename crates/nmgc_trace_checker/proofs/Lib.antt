@@ -12,6 +12,7 @@ mod Noted
 mod Outputs
 mod Owing
 mod Readings
+mod Returning
 mod Sayings
 mod Takes
 mod Checkings

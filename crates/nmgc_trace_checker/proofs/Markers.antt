@@ -1,28 +1,16 @@
 -- Each cycle of a trace began with a closed world, and got to its state by commands, values handed over, pushes and scans.
-use Rattle.nmgc_trace_checker.proofs.Vocabulary.{◌≡◌, ◌<◌, ◌+◌, ◌⊎◌, ◌∙◌, ℕ, refl, sym, ap, subst, inl, inr, true, false, List, [], ◌∷◌, length, Name, Command, Reply, World, IsWorld, step, new_is_world, closed_world, step_keeps_world, Cycle, Hybrid, IsWatchedIn, WatchesIn, Watches, beginning, is_scanned, scanned_at_once, Watch, CanAct, AreDone, Meaning, Begun, Comes, Happens}
+use Rattle.nmgc_trace_checker.proofs.Vocabulary.{◌+◌, ℕ, refl, sym, subst, inl, inr, List, [], ◌∷◌, Name, Command, Reply, World, IsWorld, step, new_is_world, closed_world, step_keeps_world, Cycle, Hybrid, IsWatchedIn, beginning, scanned_at_once, Watch, CanAct, AreDone, Meaning, Begun, Comes, Happens}
 use Rattle.nmgc_world_spec.specs.World.{value_for}
 use Rattle.nmgc_world_laws.specs.laws.Worlds.{holding_keeps, operand_known}
 use Rattle.nmgc_barrier_laws.specs.Hybrid.{IsPushedIn, IsTookIn, IsScanned, handed_over}
 use Rattle.nmgc_limits.specs.declared.mutators.TheConstants.{REGISTERS}
-use Rattle.nmgc_barrier_checker.specs.{declared.event.Event.Event, Rows.emptied, Watching.Can, Watching.CanExit, Watching.CountsAsScanned, Cycles.Hands, Cycles.IsGivenOver, declared.hand.Hand.Hand}
+use Rattle.nmgc_trace_checker.proofs.Returning.{Stood, Stands, after_back}
+use Rattle.nmgc_barrier_checker.specs.{declared.event.Event.Event, declared.rows.Task.Task, Rows.emptied, Watching.AreRows, Watching.Can, Watching.CanExit, Watching.CountsAsScanned, Cycles.Hands, Cycles.IsGivenOver, declared.hand.Hand.Hand}
 use Rattle.nmgc_barrier_laws.specs.Hybrid as hybrid
 use Rattle.nmgc_barrier_checker.specs.declared.event.Event.TheVariants as event
 use Rattle.nmgc_barrier_checker.specs.declared.watch.Watch.TheVariants as watch
 use Rattle.nmgc_trace_checker.specs.declared.meaning.Meaning.TheVariants as meaning
 use Rattle.nmgc_trace_checker.specs.declared.report.Begun.TheVariants as begun
-
--- a cycle that began with a closed world, whose world is closed
-pub record Stood (h : Hybrid) : Type 0 where
-  pub begins : World
-  pub is : IsWorld begins
-  pub watches : WatchesIn begins h
-  pub world : IsWorld h.watch.world
-
-abbrev Stands : Watch → Type 0
-Stands (watch.Between w) = IsWorld w
-Stands (watch.Marking h) = Stood h
-Stands (watch.Ended left) = IsWorld left.world
-Stands watch.Stopped = Unit {0}
 
 begin : (w : World) → IsWorld w → Stood (scanned_at_once w)
 begin w is = record { begins = w; is = is; watches = hybrid.begun_at_once; world = is }
@@ -75,18 +63,22 @@ scanned h next m t k = record {
   world = subst (λ (x : Hybrid). IsWorld x.watch.world) (sym k.rest) t.world;
 }
 
--- each command of a line with several keeps this fact
-after_act : (n m : ℕ) (c : Command) (q after : Watch) → CanAct n m c q after → Stands q → Stands after
-after_act n m c (watch.Between w) after can t =
-    subst Stands (sym can.2) (subst IsWorld (sym can.1.2) (step_keeps_world w m c t can.1.0))
-after_act n m c (watch.Marking h) after can t = subst Stands (sym can.3) (given h can.0 n m c (step h.watch.world m c).1 t can.1)
-after_act n m c (watch.Ended left) after can t =
-    subst Stands (sym can.2) (subst IsWorld (sym can.1.2) (step_keeps_world left.world m c t can.1.0))
-after_act n m c watch.Stopped after can t = absurd can
+-- each task of a line with several keeps this fact
+after_act : (n m : ℕ) (k : Task) (q after : Watch) → CanAct n m k q after → Stands q → Stands after
+after_act n m k (watch.Between w) after can t =
+    subst Stands (sym can.2) (subst IsWorld (sym can.1.2) (step_keeps_world w m k.command t can.1.0))
+after_act n m k (watch.Marking h) after can t =
+    subst Stands (sym can.3) (given h can.0 n m k.command (step h.watch.world m k.command).1 t can.1)
+after_act n m k (watch.Ended left) after can t =
+    subst Stands (sym can.2) (subst IsWorld (sym can.1.2) (step_keeps_world left.world m k.command t can.1.0))
+after_act n m k watch.Stopped after can t = absurd can
 
-after_rows : (n m : ℕ) (cs : List Command) (q after : Watch) → AreDone n m cs q after → Stands q → Stands after
-after_rows n m [] q after h t = subst Stands (sym h) t
-after_rows n m (c ∷ cs) q after h t = after_rows n m cs h.0 after h.2 (after_act n m c q h.0 h.1 t)
+after_tasks : (n m : ℕ) (ks : List Task) (q after : Watch) → AreDone n m ks q after → Stands q → Stands after
+after_tasks n m [] q after h t = subst Stands (sym h) t
+after_tasks n m (k ∷ ks) q after h t = after_tasks n m ks h.0 after h.2 (after_act n m k q h.0 h.1 t)
+
+after_rows : (n m : ℕ) (borrowed : List ℕ) (ks : List Task) (q after : Watch) → AreRows n m borrowed ks q after → Stands q → Stands after
+after_rows n m borrowed ks q after h t = after_back n m borrowed ks q h.1.0 after h.0 h.1.1 h.1.2 t (after_tasks n m ks q h.1.0 h.1.1 t)
 
 -- and so does a mutator that counts as scanned
 after_count : (m : ℕ) (q after : Watch) → CountsAsScanned m q after → Stands q → Stands after
@@ -97,23 +89,23 @@ after_count m watch.Stopped after (inl can) t = absurd can
 after_count m q after (inr stays) t = subst Stands (sym stays.0) t
 
 after_exit : (n m : ℕ) (q after : Watch) → CanExit n m q after → Stands q → Stands after
-after_exit n m (watch.Between w) after can t = after_count m can.0 after can.2 (after_rows n m (emptied REGISTERS) (watch.Between w) can.0 can.1.1 t)
-after_exit n m (watch.Marking h) after can t = after_count m can.0 after can.2 (after_rows n m (emptied REGISTERS) (watch.Marking h) can.0 can.1.1 t)
-after_exit n m (watch.Ended left) after can t = after_count m can.0 after can.2 (after_rows n m (emptied REGISTERS) (watch.Ended left) can.0 can.1.1 t)
+after_exit n m (watch.Between w) after can t = after_count m can.0 after can.2 (after_rows n m [] (emptied REGISTERS) (watch.Between w) can.0 can.1 t)
+after_exit n m (watch.Marking h) after can t = after_count m can.0 after can.2 (after_rows n m [] (emptied REGISTERS) (watch.Marking h) can.0 can.1 t)
+after_exit n m (watch.Ended left) after can t = after_count m can.0 after can.2 (after_rows n m [] (emptied REGISTERS) (watch.Ended left) can.0 can.1 t)
 after_exit n m watch.Stopped after can t = absurd can.1
 
 -- an event keeps this fact
 after_event : (n : ℕ) (q : Watch) (e : Event) (after : Watch) → Can n q e after → Stands q → Stands after
 after_event n (watch.Between w) (event.Given m c answer) after can t =
     subst Stands (sym can.2) (subst IsWorld (sym can.1.2) (step_keeps_world w m c t can.1.0))
-after_event n (watch.Between w) (event.Rows m commands) after can t = after_rows n m commands (watch.Between w) after can.1 t
+after_event n (watch.Between w) (event.Rows m borrowed tasks) after can t = after_rows n m borrowed tasks (watch.Between w) after can t
 after_event n (watch.Between w) (event.Hand k answer) after can t = subst Stands (sym can.2) (subst IsWorld (sym can.1.2) (hand_world w k t can.1.0))
 after_event n (watch.Between w) (event.Exit m) after can t = after_exit n m (watch.Between w) after can t
 after_event n (watch.Between w) event.Mark after can t = subst Stands (sym can) (begin w t)
 after_event n (watch.Between w) event.MarkShared after can t = subst Stands (sym can) (begin_later w t)
 after_event n (watch.Between w) _ after can t = absurd can
 after_event n (watch.Marking h) (event.Given m c answer) after can t = subst Stands (sym can.2) (given h can.0 n m c answer t can.1)
-after_event n (watch.Marking h) (event.Rows m commands) after can t = after_rows n m commands (watch.Marking h) after can.1 t
+after_event n (watch.Marking h) (event.Rows m borrowed tasks) after can t = after_rows n m borrowed tasks (watch.Marking h) after can t
 after_event n (watch.Marking h) (event.Scan m) after can t = subst Stands (sym can.2) (scanned h can.0 m t can.1)
 after_event n (watch.Marking h) (event.Hand k answer) after can t = subst Stands (sym can.3) (handed h can.0 n k t can.1)
 after_event n (watch.Marking h) (event.Exit m) after can t = after_exit n m (watch.Marking h) after can t
@@ -127,7 +119,7 @@ after_event n (watch.Marking h) (event.CloseWith dead) after can t =
 after_event n (watch.Marking h) _ after can t = absurd can
 after_event n (watch.Ended left) (event.Given m c answer) after can t =
     subst Stands (sym can.2) (subst IsWorld (sym can.1.2) (step_keeps_world left.world m c t can.1.0))
-after_event n (watch.Ended left) (event.Rows m commands) after can t = after_rows n m commands (watch.Ended left) after can.1 t
+after_event n (watch.Ended left) (event.Rows m borrowed tasks) after can t = after_rows n m borrowed tasks (watch.Ended left) after can t
 after_event n (watch.Ended left) (event.Hand k answer) after can t =
     subst Stands (sym can.2) (subst IsWorld (sym can.1.2) (hand_world left.world k t can.1.0))
 after_event n (watch.Ended left) (event.Exit m) after can t = after_exit n m (watch.Ended left) after can t

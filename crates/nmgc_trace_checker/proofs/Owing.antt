@@ -1,7 +1,9 @@
 -- The debts of a trace's state: each was there before or is new at its line, and a reason about a due name is about one of them.
-use Rattle.nmgc_trace_checker.proofs.Vocabulary.{◌≡◌, ◌⊎◌, ℕ, subst, inl, inr, List, [], ◌∷◌, Contains, nothing, Name, Command, Reply, World, Cycle, Hybrid, IsWatchedIn, Watch, CanAct, AreDone, Meaning, Begun, Happens}
+use Rattle.nmgc_trace_checker.proofs.Vocabulary.{◌≡◌, ◌⊎◌, ℕ, subst, inl, inr, List, [], ◌∷◌, get_or, Contains, nothing, Name, Command, Reply, World, Cycle, Hybrid, IsWatchedIn, Watch, CanAct, AreDone, Meaning, Begun, Happens}
 use Rattle.nmgc_barrier_laws.specs.declared.debt.Debt.{Debt}
-use Rattle.nmgc_barrier_checker.specs.{declared.event.Event.Event, Cycles.IsNotDone, Watching.Can, Watching.IsAgainst, Watching.IsAgainstWith, Watching.IsOwed, Watching.IsWhy, Watching.WhyNoAct, declared.hand.Hand.Hand, Cycles.IsWhyNoHand, Rows.emptied, Watching.CountsAsScanned}
+use Rattle.nmgc_world_spec.specs.declared.value.Value.{Value}
+use Rattle.nmgc_world_spec.specs.declared.value.Value.TheVariants as value
+use Rattle.nmgc_barrier_checker.specs.{declared.event.Event.Event, declared.rows.Task.Task, Cycles.IsNotDone, Watching.AreRows, Watching.put, Watching.put_back, Watching.registers_in, Watching.Can, Watching.IsAgainst, Watching.IsAgainstWith, Watching.IsOwed, Watching.IsWhy, Watching.WhyNoAct, declared.hand.Hand.Hand, Cycles.IsWhyNoHand, Rows.emptied, Watching.CountsAsScanned}
 use Rattle.nmgc_limits.specs.declared.mutators.TheConstants.{REGISTERS}
 use Rattle.nmgc_world_spec.specs.declared.command.Reply.TheVariants as reply
 use Rattle.nmgc_barrier_checker.specs.declared.event.Event.TheVariants as event
@@ -24,15 +26,27 @@ module _ (n : ℕ) (d : Debt) where
       IsFrom n (watch.Marking h) d
   given h next m c answer w o = elim (w.new d o) [ inl old ↦ inr old | inr p ↦ inl p.0 ]
 
-  acts : (m : ℕ) (c : Command) (p next : Watch) → CanAct n m c p next → IsOwed next d → IsFrom n p d
-  acts m c (watch.Between w) next a o = inr (owed_in (watch.Between a.0) next a.2 o)
-  acts m c (watch.Marking h) next a o = given h a.0 m c _ a.1 (owed_in (watch.Marking a.0) next a.3 o)
-  acts m c (watch.Ended left) next a o = inr (owed_in (watch.Ended (record left { world = a.0 })) next a.2 o)
-  acts m c watch.Stopped next a o = absurd a
+  acts : (m : ℕ) (k : Task) (p next : Watch) → CanAct n m k p next → IsOwed next d → IsFrom n p d
+  acts m k (watch.Between w) next a o = inr (owed_in (watch.Between a.0) next a.2 o)
+  acts m k (watch.Marking h) next a o = given h a.0 m k.command _ a.1 (owed_in (watch.Marking a.0) next a.3 o)
+  acts m k (watch.Ended left) next a o = inr (owed_in (watch.Ended (record left { world = a.0 })) next a.2 o)
+  acts m k watch.Stopped next a o = absurd a
 
-  done : (m : ℕ) (cs : List Command) (p next : Watch) → AreDone n m cs p next → IsOwed next d → IsFrom n p d
+  done : (m : ℕ) (ks : List Task) (p next : Watch) → AreDone n m ks p next → IsOwed next d → IsFrom n p d
   done m [] p next a o = inr (owed_in p next a o)
-  done m (c ∷ cs) p next a o = elim (done m cs a.0 next a.2 o) [ inl e ↦ inl e | inr b ↦ acts m c p a.0 a.1 b ]
+  done m (k ∷ ks) p next a o = elim (done m ks a.0 next a.2 o) [ inl e ↦ inl e | inr b ↦ acts m k p a.0 a.1 b ]
+
+  -- values that are put back make nothing due
+  back : (m : ℕ) (held : List Value) (rs : List ℕ) (q : Watch) → IsOwed (put_back m held rs q) d → IsOwed q d
+  back m held [] q o = o
+  back m held (r ∷ rs) (watch.Between w) o = back m held rs (put m r (get_or held r value.Nil) (watch.Between w)) o
+  back m held (r ∷ rs) (watch.Marking h) o = back m held rs (put m r (get_or held r value.Nil) (watch.Marking h)) o
+  back m held (r ∷ rs) (watch.Ended left) o = back m held rs (put m r (get_or held r value.Nil) (watch.Ended left)) o
+  back m held (r ∷ rs) watch.Stopped o = back m held rs watch.Stopped o
+
+  rows : (m : ℕ) (borrowed : List ℕ) (ks : List Task) (p next : Watch) → AreRows n m borrowed ks p next → IsOwed next d → IsFrom n p d
+  rows m borrowed ks p next k o =
+      done m ks p k.1.0 k.1.1 (back m (registers_in m p) borrowed k.1.0 (owed_in (put_back m (registers_in m p) borrowed k.1.0) next k.1.2 o))
 
   -- a mutator that counts as scanned makes nothing due
   counts : (m : ℕ) (p next : Watch) → CountsAsScanned m p next → IsOwed next d → IsOwed p d
@@ -48,10 +62,10 @@ module _ (n : ℕ) (d : Debt) where
   from_event (watch.Marking h) next (event.Given m c answer) k o = given h k.0 m c answer k.1 (owed_in (watch.Marking k.0) next k.2 o)
   from_event (watch.Ended left) next (event.Given m c answer) k o = inr (owed_in (watch.Ended (record left { world = k.0 })) next k.2 o)
   from_event watch.Stopped next (event.Given m c answer) k o = absurd k
-  from_event (watch.Between w) next (event.Rows m cs) k o = done m cs (watch.Between w) next k.1 o
-  from_event (watch.Marking h) next (event.Rows m cs) k o = done m cs (watch.Marking h) next k.1 o
-  from_event (watch.Ended left) next (event.Rows m cs) k o = done m cs (watch.Ended left) next k.1 o
-  from_event watch.Stopped next (event.Rows m cs) k o = absurd k
+  from_event (watch.Between w) next (event.Rows m borrowed ks) k o = rows m borrowed ks (watch.Between w) next k o
+  from_event (watch.Marking h) next (event.Rows m borrowed ks) k o = rows m borrowed ks (watch.Marking h) next k o
+  from_event (watch.Ended left) next (event.Rows m borrowed ks) k o = rows m borrowed ks (watch.Ended left) next k o
+  from_event watch.Stopped next (event.Rows m borrowed ks) k o = absurd k
   from_event (watch.Between w) next event.Mark k o = absurd (nothing d (owed_in _ next k o))
   from_event (watch.Marking h) next event.Mark k o = absurd k
   from_event (watch.Ended left) next event.Mark k o = absurd (nothing d (owed_in _ next k o))
@@ -64,9 +78,9 @@ module _ (n : ℕ) (d : Debt) where
   from_event (watch.Marking h) next (event.Scan m) k o = inr (subst (λ (x : Hybrid). Contains x.watch.debts d) k.1.rest (owed_in (watch.Marking k.0) next k.2 o))
   from_event (watch.Ended left) next (event.Scan m) k o = absurd k
   from_event watch.Stopped next (event.Scan m) k o = absurd k
-  from_event (watch.Between w) next (event.Exit m) k o = done m (emptied REGISTERS) (watch.Between w) k.0 k.1.1 (counts m k.0 next k.2 o)
-  from_event (watch.Marking h) next (event.Exit m) k o = done m (emptied REGISTERS) (watch.Marking h) k.0 k.1.1 (counts m k.0 next k.2 o)
-  from_event (watch.Ended left) next (event.Exit m) k o = done m (emptied REGISTERS) (watch.Ended left) k.0 k.1.1 (counts m k.0 next k.2 o)
+  from_event (watch.Between w) next (event.Exit m) k o = rows m [] (emptied REGISTERS) (watch.Between w) k.0 k.1 (counts m k.0 next k.2 o)
+  from_event (watch.Marking h) next (event.Exit m) k o = rows m [] (emptied REGISTERS) (watch.Marking h) k.0 k.1 (counts m k.0 next k.2 o)
+  from_event (watch.Ended left) next (event.Exit m) k o = rows m [] (emptied REGISTERS) (watch.Ended left) k.0 k.1 (counts m k.0 next k.2 o)
   from_event watch.Stopped next (event.Exit m) k o = absurd k.1
   from_event (watch.Between w) next (event.Hand v answer) k o = inr (owed_in (watch.Between k.0) next k.2 o)
   from_event (watch.Marking h) next (event.Hand v answer) k o =
@@ -128,10 +142,10 @@ module _ (d : Debt) where
   same_debt : (e : Debt) → why.Due d ≡ why.Due e → e ≡ d
   same_debt e is = cc
 
-  not_done : (w : World) (m : ℕ) (c : Command) → IsNotDone w m c (why.Due d) → ⊥
-  not_done w m c x = x
+  not_done : (w : World) (m : ℕ) (k : Task) → IsNotDone w m k (why.Due d) → ⊥
+  not_done w m k x = x
 
-  no_act : (m : ℕ) (c : Command) (p : Watch) → WhyNoAct m c p (why.Due d) → ⊥
+  no_act : (m : ℕ) (k : Task) (p : Watch) → WhyNoAct m k p (why.Due d) → ⊥
   no_act m c (watch.Between w) x = x
   no_act m c (watch.Marking h) x = x
   no_act m c (watch.Ended left) x = x
@@ -154,13 +168,13 @@ module _ (d : Debt) where
   of_event (watch.Marking h) (event.Given m c answer) x = absurd x
   of_event (watch.Ended left) (event.Given m c answer) x = absurd x
   of_event watch.Stopped (event.Given m c answer) x = absurd (let bad : why.Due d ≡ why.Misplaced = x in cc)
-  of_event (watch.Between w) (event.Rows m cs) x = absurd (elim x.2 [ inl s ↦ no_act m s.command x.1 s.reason | inr a ↦ (let bad : why.Due d ≡ why.CannotApply = a.0 in cc) ])
-  of_event (watch.Marking h) (event.Rows m cs) x = absurd (elim x.2 [ inl s ↦ no_act m s.command x.1 s.reason | inr a ↦ (let bad : why.Due d ≡ why.CannotApply = a.0 in cc) ])
-  of_event (watch.Ended left) (event.Rows m cs) x = absurd (elim x.2 [ inl s ↦ no_act m s.command x.1 s.reason | inr a ↦ (let bad : why.Due d ≡ why.CannotApply = a.0 in cc) ])
-  of_event watch.Stopped (event.Rows m cs) x = absurd (let bad : why.Due d ≡ why.Misplaced = x.2.0 in cc)
-  of_event (watch.Between w) (event.Exit m) x = absurd (elim x.2 [ inl s ↦ no_act m s.command x.1 s.reason | inr a ↦ (let bad : why.Due d ≡ why.CannotApply = a.0 in cc) ])
-  of_event (watch.Marking h) (event.Exit m) x = absurd (elim x.2 [ inl s ↦ no_act m s.command x.1 s.reason | inr a ↦ (let bad : why.Due d ≡ why.CannotApply = a.0 in cc) ])
-  of_event (watch.Ended left) (event.Exit m) x = absurd (elim x.2 [ inl s ↦ no_act m s.command x.1 s.reason | inr a ↦ (let bad : why.Due d ≡ why.CannotApply = a.0 in cc) ])
+  of_event (watch.Between w) (event.Rows m borrowed ks) x = absurd (elim x.2 [ inl s ↦ no_act m s.1.task s.0 s.1.reason | inr a ↦ (let bad : why.Due d ≡ why.CannotApply = a.0 in cc) ])
+  of_event (watch.Marking h) (event.Rows m borrowed ks) x = absurd (elim x.2 [ inl s ↦ no_act m s.1.task s.0 s.1.reason | inr a ↦ (let bad : why.Due d ≡ why.CannotApply = a.0 in cc) ])
+  of_event (watch.Ended left) (event.Rows m borrowed ks) x = absurd (elim x.2 [ inl s ↦ no_act m s.1.task s.0 s.1.reason | inr a ↦ (let bad : why.Due d ≡ why.CannotApply = a.0 in cc) ])
+  of_event watch.Stopped (event.Rows m borrowed ks) x = absurd (let bad : why.Due d ≡ why.Misplaced = x.2.0 in cc)
+  of_event (watch.Between w) (event.Exit m) x = absurd (elim x.2 [ inl s ↦ no_act m s.1.task s.0 s.1.reason | inr a ↦ (let bad : why.Due d ≡ why.CannotApply = a.0 in cc) ])
+  of_event (watch.Marking h) (event.Exit m) x = absurd (elim x.2 [ inl s ↦ no_act m s.1.task s.0 s.1.reason | inr a ↦ (let bad : why.Due d ≡ why.CannotApply = a.0 in cc) ])
+  of_event (watch.Ended left) (event.Exit m) x = absurd (elim x.2 [ inl s ↦ no_act m s.1.task s.0 s.1.reason | inr a ↦ (let bad : why.Due d ≡ why.CannotApply = a.0 in cc) ])
   of_event watch.Stopped (event.Exit m) x = absurd (let bad : why.Due d ≡ why.Misplaced = x.2.0 in cc)
   of_event (watch.Between w) (event.Hand v answer) x = absurd (no_hand w v answer x)
   of_event (watch.Marking h) (event.Hand v answer) x = absurd (no_hand h.watch.world v answer x)

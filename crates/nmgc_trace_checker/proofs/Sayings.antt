@@ -8,9 +8,9 @@ use Rattle.nmgc_io.specs.Text.{tokens_of, is_blank_or_comment, spaced}
 use Rattle.nmgc_script.specs.{Spelling.command_words, laws.Lines.IsWord, laws.Lines.words_again, laws.Lines.tokens_of-line, laws.Lines.made_kept, laws.Lines.command_line}
 use Rattle.nmgc_journal.specs.{Text.name_text, Text.reply_text, Reading.◌>>=◌, Reading.name_at, laws.Reading.bind_some, laws.Reading.guard_some, laws.Reading.name_reads}
 use Rattle.nmgc_lists.specs.laws.Truths.{chosen}
-use Rattle.nmgc_barrier_checker.specs.declared.{event.Event.Event, hand.Hand.Hand}
+use Rattle.nmgc_barrier_checker.specs.declared.{event.Event.Event, hand.Hand.Hand, rows.Task.Task}
 use Rattle.nmgc_barrier_checker.specs.declared.event.Event.TheVariants as event
-use Rattle.nmgc_trace_checker.specs.{declared.meaning.Meaning.Meaning, Reading.byte_at, Reading.names_at, Reading.pusher_at, Reading.mutators_at, Reading.mark_at, Reading.shared_mark_at, Reading.scan_at, Reading.exit_at, Reading.push_at, Reading.settle_at, Reading.take_at, Reading.close_at, Reading.marked_at, Reading.black_at, Reading.freed_at, Reading.stop_at, Reading.ending_at, Reading.plain_at, Reading.parts_at, Reading.hand_at, Reading.rows_if, Reading.IsCommandOf, Reading.IsMeaningOfHand, Reading.IsMeaningOfRows, Reading.IsMeaningOfRow, Reading.IsMeaningBy, Said.IsMutators, Said.IsReply, Said.given_words, Said.IsGiven, Said.IsHanded, Said.hand_words, Said.copy_words, Said.fill_words, Said.IsPusher, Said.names_words, Said.AreNames, Said.SaysEvent, Said.Says}
+use Rattle.nmgc_trace_checker.specs.{declared.meaning.Meaning.Meaning, Reading.byte_at, Reading.names_at, Reading.pusher_at, Reading.mutators_at, Reading.mark_at, Reading.shared_mark_at, Reading.scan_at, Reading.exit_at, Reading.push_at, Reading.settle_at, Reading.take_at, Reading.close_at, Reading.marked_at, Reading.black_at, Reading.freed_at, Reading.stop_at, Reading.ending_at, Reading.plain_at, Reading.parts_at, Reading.hand_at, Reading.rows_if, Reading.IsCommandOf, Meanings.IsMeaningOfBorrowing, Meanings.IsMeaningOfHand, Meanings.IsMeaningOfRows, Meanings.IsMeaningOfRow, Meanings.IsMeaningBy, Borrowing.borrowing_at, Immediates.IsRewritten, declared.borrowing.Rows.Rows, Said.IsBorrowing, Said.IsImmediate, Said.IsMutators, Said.IsReply, Said.given_words, Said.IsGiven, Said.IsHanded, Said.hand_words, Said.copy_words, Said.fill_words, Said.IsPusher, Said.names_words, Said.AreNames, Said.SaysEvent, Said.Says}
 use Rattle.nmgc_trace_checker.specs.declared.meaning.Meaning.TheVariants as meaning
 use Rattle.nmgc_trace_checker.proofs.{LineWords.words_are, LineWords.front_words, WordReads.Given, WordReads.AreRows, WordReads.is_word, WordReads.byte_takes, WordReads.byte_again, WordReads.names_read, WordReads.names_reread, WordReads.pusher_takes, WordReads.pusher_again, WordReads.parts_takes, WordReads.parts_again, WordReads.rows_if_takes, WordReads.rows_if_again, WordReads.HandsOver, WordReads.hand_takes, WordReads.hand_again}
 
@@ -258,7 +258,9 @@ says_by text _ h = absurd h
 
 -- tokens without a keyword can only say commands of a mutator
 module _ (words : List (List ℕ)) (none : plain_at words ≡ None) (given : (m : ℕ) (c : Command) (answer : Reply) → IsGiven words m c answer → ⊥)
-    (rows : (m : ℕ) (ws : List (List ℕ)) (commands : List Command) → m < 256 → words ≡ given_words m ws (codes "ok") → AreRows ws commands → ⊥)
+    (rows : (m : ℕ) (ws : List (List ℕ)) (tasks : List Task) → m < 256 → words ≡ given_words m ws (codes "ok") → AreRows ws tasks → ⊥)
+    (borrows : (m : ℕ) (borrowed : List ℕ) (tasks : List Task) → IsBorrowing words m borrowed tasks → ⊥)
+    (immediates : (m : ℕ) (borrowed : List ℕ) (tasks : List Task) → IsImmediate words m borrowed tasks → ⊥)
     (hands : (k : Hand) (answer : Reply) → IsHanded words k answer → ⊥) where
   never : (t : Meaning) → plain_at words ≡ Some t → ⊥
   never t e = none-some t (sym none ∙ e)
@@ -268,10 +270,12 @@ module _ (words : List (List ℕ)) (none : plain_at words ≡ None) (given : (m 
 
   no_event : (e : Event) → SaysEvent words e → ⊥
   no_event (event.Given m c answer) h = given m c answer h
-  no_event (event.Rows m commands) (inl h) = rows m (copy_words h.copying) commands h.mutator h.words_are
-      (inl (h.copying, h.valid, refl, h.commands_are))
-  no_event (event.Rows m commands) (inr h) = rows m (fill_words h.filling) commands h.mutator h.words_are
-      (inr (h.filling, h.valid, refl, h.commands_are))
+  no_event (event.Rows m borrowed tasks) (inl (e, inl h)) = rows m (copy_words h.copying) tasks h.mutator h.words_are
+      (inl (h.copying, h.valid, refl, h.tasks_are))
+  no_event (event.Rows m borrowed tasks) (inl (e, inr h)) = rows m (fill_words h.filling) tasks h.mutator h.words_are
+      (inr (h.filling, h.valid, refl, h.tasks_are))
+  no_event (event.Rows m borrowed tasks) (inr (inl h)) = borrows m borrowed tasks h
+  no_event (event.Rows m borrowed tasks) (inr (inr h)) = immediates m borrowed tasks h
   no_event (event.Hand k answer) h = hands k answer h
   no_event event.Mark h = never (meaning.Event event.Mark) (at_words words (codes "mark" ∷ []) (meaning.Event event.Mark) h mark_again)
   no_event event.MarkShared h = never (meaning.Event event.MarkShared) (at_words words (codes "mark" ∷ codes "g" ∷
@@ -303,15 +307,22 @@ module _ (text : List ℕ) (kept : is_blank_or_comment text ≡ false) (none : p
 
   -- a text that is no line of a trace
   nothing : ((m : ℕ) (c : Command) (answer : Reply) → IsGiven words m c answer → ⊥) →
-      ((m : ℕ) (ws : List (List ℕ)) (commands : List Command) → m < 256 → words ≡ given_words m ws (codes "ok") → AreRows ws commands → ⊥) →
+      ((m : ℕ) (ws : List (List ℕ)) (tasks : List Task) → m < 256 → words ≡ given_words m ws (codes "ok") → AreRows ws tasks → ⊥) →
+      ((m : ℕ) (borrowed : List ℕ) (tasks : List Task) → IsBorrowing words m borrowed tasks → ⊥) →
+      ((m : ℕ) (borrowed : List ℕ) (tasks : List Task) → IsImmediate words m borrowed tasks → ⊥) →
       ((k : Hand) (answer : Reply) → IsHanded words k answer → ⊥) → Says text meaning.Unknown
-  nothing given rows hands =
-      record { kept = kept; mutators = no_mutators words none given rows hands; event = no_event words none given rows hands }
+  nothing given rows borrows immediates hands = record {
+    kept = kept;
+    mutators = no_mutators words none given rows borrows immediates hands;
+    event = no_event words none given rows borrows immediates hands;
+  }
 
   no_parts : parts_at words ≡ None → Says text meaning.Unknown
   no_parts e = nothing
       (λ m c answer h. none-some (m, command_words c, answer) (sym e ∙ ap parts_at h.words_are ∙ parts_again m (command_words c) answer h.mutator h.reply))
-      (λ m ws commands lt is h. none-some (m, ws, reply.Fine) (sym e ∙ ap parts_at is ∙ parts_again m ws reply.Fine lt tt))
+      (λ m ws tasks lt is h. none-some (m, ws, reply.Fine) (sym e ∙ ap parts_at is ∙ parts_again m ws reply.Fine lt tt))
+      (λ m borrowed tasks h. none-some (m, h.command, h.answer) (sym e ∙ ap parts_at h.words_are ∙ parts_again m h.command h.answer h.mutator h.reply))
+      (λ m borrowed tasks h. none-some (m, h.command, h.answer) (sym e ∙ ap parts_at h.words_are ∙ parts_again m h.command h.answer h.mutator h.reply))
       (λ k answer h. none-some (k.giver, hand_words k, answer) (sym e ∙ ap parts_at h.words_are ∙ parts_again k.giver (hand_words k) answer h.giver h.reply))
 
   module _ (p : Given) (e : parts_at words ≡ Some p) where
@@ -322,23 +333,42 @@ module _ (text : List ℕ) (kept : is_blank_or_comment text ≡ false) (none : p
     parts_are : (m : ℕ) (ws : List (List ℕ)) (answer : Reply) → m < 256 → IsReply answer → words ≡ given_words m ws (reply_text answer) → (m, ws, answer) ≡ p
     parts_are m ws answer lt valid is = same_Some (m, ws, answer) p (sym (parts_again m ws answer lt valid) ∙ sym (ap parts_at is) ∙ e)
 
-    a_copy : (commands : List Command) → (p.2 ≡ reply.Fine) × AreRows p.1 commands → SaysEvent words (event.Rows p.0 commands)
-    a_copy commands (fine, inl h) = inl (record {
+    a_copy : (tasks : List Task) → (p.2 ≡ reply.Fine) × AreRows p.1 tasks → SaysEvent words (event.Rows p.0 [] tasks)
+    a_copy tasks (fine, inl h) = inl (
+      refl,
+      inl (record {
+        mutator = read.0;
+        copying = h.0;
+        valid = h.1;
+        words_are = read.2 ∙ ap (λ (ws : List (List ℕ)). given_words p.0 ws (reply_text p.2)) h.2 ∙
+            ap (λ (r : Reply). given_words p.0 (copy_words h.0) (reply_text r)) fine;
+        tasks_are = h.3;
+      }),
+    )
+    a_copy tasks (fine, inr h) = inl (
+      refl,
+      inr (record {
+        mutator = read.0;
+        filling = h.0;
+        valid = h.1;
+        words_are = read.2 ∙ ap (λ (ws : List (List ℕ)). given_words p.0 ws (reply_text p.2)) h.2 ∙
+            ap (λ (r : Reply). given_words p.0 (fill_words h.0) (reply_text r)) fine;
+        tasks_are = h.3;
+      }),
+    )
+
+    a_borrowing : (rows : Rows) → borrowing_at p.2 p.1 ≡ Some rows → SaysEvent words (event.Rows p.0 rows.borrowed rows.tasks)
+    a_borrowing rows e = inr (inl (record { mutator = read.0; command = p.1; answer = p.2; reply = read.1; words_are = read.2; reads = e }))
+
+    an_immediate : (rows : Rows) → ((c : Command) → IsCommandOf p.1 c → ⊥) → IsRewritten p.2 p.1 rows → SaysEvent words (event.Rows p.0 rows.borrowed rows.tasks)
+    an_immediate rows never_one k = inr (inr (record {
       mutator = read.0;
-      copying = h.0;
-      valid = h.1;
-      words_are = read.2 ∙ ap (λ (ws : List (List ℕ)). given_words p.0 ws (reply_text p.2)) h.2 ∙
-          ap (λ (r : Reply). given_words p.0 (copy_words h.0) (reply_text r)) fine;
-      commands_are = h.3;
-    })
-    a_copy commands (fine, inr h) = inr (record {
-      mutator = read.0;
-      filling = h.0;
-      valid = h.1;
-      words_are = read.2 ∙ ap (λ (ws : List (List ℕ)). given_words p.0 ws (reply_text p.2)) h.2 ∙
-          ap (λ (r : Reply). given_words p.0 (fill_words h.0) (reply_text r)) fine;
-      commands_are = h.3;
-    })
+      command = p.1;
+      answer = p.2;
+      reply = read.1;
+      words_are = read.2;
+      reads = record { uncommanded = never_one; rewrites = k };
+    }))
 
     a_hand : (k : Hand) → HandsOver p.0 p.1 k → SaysEvent words (event.Hand k p.2)
     a_hand k h = record {
@@ -359,22 +389,36 @@ module _ (text : List ℕ) (kept : is_blank_or_comment text ≡ false) (none : p
       words_are = read.2 ∙ ap (λ (ws : List (List ℕ)). given_words p.0 ws (reply_text p.2)) (command_said text p.0 p.1 (reply_text p.2) c read.2 is);
     }
 
-    no_command : hand_at p.0 p.1 ≡ None → rows_if p.2 p.1 ≡ None → ((c : Command) → IsCommandOf p.1 c → ⊥) → Says text meaning.Unknown
-    no_command no_hand no_rows never_one = nothing
+    no_command : hand_at p.0 p.1 ≡ None → rows_if p.2 p.1 ≡ None → borrowing_at p.2 p.1 ≡ None → ((c : Command) → IsCommandOf p.1 c → ⊥) →
+        ((rows : Rows) → IsRewritten p.2 p.1 rows → ⊥) → Says text meaning.Unknown
+    no_command no_hand no_rows no_loan never_one never_rewritten = nothing
         (λ m c answer h.
         let same : (m, command_words c, answer) ≡ p = parts_are m (command_words c) answer h.mutator h.reply h.words_are in
         never_one c (h.fits, ap (λ (q : Given). spaced q.1) (sym same)))
-        (λ m ws commands lt is h.
+        (λ m ws tasks lt is h.
         let same : (m, ws, reply.Fine) ≡ p = parts_are m ws reply.Fine lt tt is in
-        none-some commands (sym no_rows ∙ ap (λ (q : Given). rows_if q.2 q.1) (sym same) ∙ rows_if_again ws commands h))
+        none-some tasks (sym no_rows ∙ ap (λ (q : Given). rows_if q.2 q.1) (sym same) ∙ rows_if_again ws tasks h))
+        (λ m borrowed tasks h.
+        let same : (m, h.command, h.answer) ≡ p = parts_are m h.command h.answer h.mutator h.reply h.words_are in
+        none-some (record { borrowed = borrowed; tasks = tasks }) (sym no_loan ∙ ap (λ (q : Given). borrowing_at q.2 q.1) (sym same) ∙ h.reads))
+        (λ m borrowed tasks h.
+        let same : (m, h.command, h.answer) ≡ p = parts_are m h.command h.answer h.mutator h.reply h.words_are in
+        let rows : Rows = record { borrowed = borrowed; tasks = tasks } in
+        never_rewritten rows (subst (λ (q : Given). IsRewritten q.2 q.1 rows) same h.reads.rewrites))
         (λ k answer h.
         let same : (k.giver, hand_words k, answer) ≡ p = parts_are k.giver (hand_words k) answer h.giver h.reply h.words_are in
         none-some k (sym no_hand ∙ ap (λ (q : Given). hand_at q.0 q.1) (sym same) ∙ hand_again k h.value h.taker h.dest))
 
-    given_says : (t : Meaning) (o : Option (List Command)) → hand_at p.0 p.1 ≡ None → rows_if p.2 p.1 ≡ o → IsMeaningOfRows p.0 p.1 p.2 o t → Says text t
-    given_says t (Some commands) unhanded is h = subst (Says text) (sym h) (a_copy commands (rows_if_takes p.2 p.1 commands is))
-    given_says t None unhanded is (inl h) = subst (Says text) (sym h.1) (a_command h.0 h.2)
-    given_says t None unhanded is (inr h) = subst (Says text) (sym h.0) (no_command unhanded is h.1)
+    loan_says : (t : Meaning) (o : Option Rows) → hand_at p.0 p.1 ≡ None → rows_if p.2 p.1 ≡ None → borrowing_at p.2 p.1 ≡ o →
+        IsMeaningOfBorrowing p.0 p.1 p.2 o t → Says text t
+    loan_says t (Some rows) unhanded plain is h = subst (Says text) (sym h) (a_borrowing rows is)
+    loan_says t None unhanded plain is (inl h) = subst (Says text) (sym h.1) (a_command h.0 h.2)
+    loan_says t None unhanded plain is (inr (never_one, inl h)) = subst (Says text) (sym h.1) (an_immediate h.0 never_one h.2)
+    loan_says t None unhanded plain is (inr (never_one, inr h)) = subst (Says text) (sym h.0) (no_command unhanded plain is never_one h.1)
+
+    given_says : (t : Meaning) (o : Option (List Task)) → hand_at p.0 p.1 ≡ None → rows_if p.2 p.1 ≡ o → IsMeaningOfRows p.0 p.1 p.2 o t → Says text t
+    given_says t (Some tasks) unhanded is h = subst (Says text) (sym h) (a_copy tasks (rows_if_takes p.2 p.1 tasks is))
+    given_says t None unhanded is h = loan_says t (borrowing_at p.2 p.1) unhanded is refl h
 
     hand_says : (t : Meaning) (o : Option Hand) → hand_at p.0 p.1 ≡ o → IsMeaningOfHand p.0 p.1 p.2 o t → Says text t
     hand_says t (Some k) is h = subst (Says text) (sym h) (a_hand k (hand_takes p.0 p.1 k is))

@@ -1,7 +1,9 @@
 -- A whole trace has a cycle that ends in it, and each such cycle is exact.
-use Rattle.nmgc_trace_checker.proofs.{Vocabulary.◌≡◌, Vocabulary.◌⊎◌, Vocabulary.◌+◌, Vocabulary.◌++◌, Vocabulary.ℕ, Vocabulary.refl, Vocabulary.sym, Vocabulary.ap, Vocabulary.subst, Vocabulary.arith, Vocabulary.inl, Vocabulary.inr, Vocabulary.List, Vocabulary.[], Vocabulary.◌∷◌, Vocabulary.length, Vocabulary.append_assoc, Vocabulary.length-append, Vocabulary.Command, Vocabulary.World, Vocabulary.Lists, Vocabulary.MarksName, Vocabulary.Hybrid, Vocabulary.AreScanned, Vocabulary.hybrid_joint, Vocabulary.some_finisher_in, Vocabulary.hybrid_safety, Vocabulary.CycleResult, Vocabulary.Watch, Vocabulary.CanAct, Vocabulary.AreDone, Vocabulary.Meaning, Vocabulary.Begun, Vocabulary.Report, Vocabulary.Comes, Vocabulary.Happens, Vocabulary.report_of, Vocabulary.Closes, Vocabulary.IsWholeReport, Markers.Stood, Markers.stood_at, Checkings.comes_push}
+use Rattle.nmgc_trace_checker.proofs.{Vocabulary.◌≡◌, Vocabulary.◌⊎◌, Vocabulary.◌+◌, Vocabulary.◌++◌, Vocabulary.ℕ, Vocabulary.refl, Vocabulary.sym, Vocabulary.ap, Vocabulary.subst, Vocabulary.arith, Vocabulary.inl, Vocabulary.inr, Vocabulary.List, Vocabulary.[], Vocabulary.◌∷◌, Vocabulary.length, Vocabulary.get_or, Vocabulary.append_assoc, Vocabulary.length-append, Vocabulary.World, Vocabulary.Lists, Vocabulary.MarksName, Vocabulary.Hybrid, Vocabulary.AreScanned, Vocabulary.hybrid_joint, Vocabulary.some_finisher_in, Vocabulary.hybrid_safety, Vocabulary.CycleResult, Vocabulary.Watch, Vocabulary.CanAct, Vocabulary.AreDone, Vocabulary.Meaning, Vocabulary.Begun, Vocabulary.Report, Vocabulary.Comes, Vocabulary.Happens, Vocabulary.report_of, Vocabulary.Closes, Vocabulary.IsWholeReport, Returning.Stood, Markers.stood_at, Checkings.comes_push}
 use Rattle.nmgc_limits.specs.declared.mutators.TheConstants.{REGISTERS}
-use Rattle.nmgc_barrier_checker.specs.{declared.event.Event.Event, Rows.emptied, Watching.Can, Watching.CanExit, Watching.CountsAsScanned}
+use Rattle.nmgc_world_spec.specs.declared.value.Value.{Value}
+use Rattle.nmgc_world_spec.specs.declared.value.Value.TheVariants as value
+use Rattle.nmgc_barrier_checker.specs.{declared.event.Event.Event, declared.rows.Task.Task, Rows.emptied, Watching.AreRows, Watching.Can, Watching.CanExit, Watching.CountsAsScanned, Watching.put, Watching.put_back, Watching.registers_in}
 use Rattle.nmgc_trace_checker.specs.Whole.{IsExact}
 use Rattle.nmgc_barrier_laws.specs.Hybrid.{WatchesIn}
 use Rattle.nmgc_world_spec.specs.{Known.IsWorld, Reach.IsKept}
@@ -30,16 +32,22 @@ abbrev IsMarking : Watch → Type 0
 IsMarking (watch.Marking h) = Unit {0}
 IsMarking _ = ⊥
 
-act_marking : (n m : ℕ) (c : Command) (h : Hybrid) (after : Watch) → CanAct n m c (watch.Marking h) after → IsMarking after
-act_marking n m c h after can = subst IsMarking (sym can.3) tt
+act_marking : (n m : ℕ) (k : Task) (h : Hybrid) (after : Watch) → CanAct n m k (watch.Marking h) after → IsMarking after
+act_marking n m k h after can = subst IsMarking (sym can.3) tt
 
-rows_stay : (n m : ℕ) (cs : List Command) (q after : Watch) → AreDone n m cs q after → IsMarking q → IsMarking after
-rows_stay n m [] q after h is = subst IsMarking (sym h) is
-rows_stay n m (c ∷ cs) (watch.Marking k) after h is = rows_stay n m cs h.0 after h.2 (act_marking n m c k h.0 h.1)
-rows_stay n m (c ∷ cs) _ after h is = absurd is
+tasks_stay : (n m : ℕ) (ks : List Task) (q after : Watch) → AreDone n m ks q after → IsMarking q → IsMarking after
+tasks_stay n m [] q after h is = subst IsMarking (sym h) is
+tasks_stay n m (k ∷ ks) (watch.Marking x) after h is = tasks_stay n m ks h.0 after h.2 (act_marking n m k x h.0 h.1)
+tasks_stay n m (k ∷ ks) _ after h is = absurd is
 
-rows_marking : (n m : ℕ) (cs : List Command) (h : Hybrid) (after : Watch) → AreDone n m cs (watch.Marking h) after → IsMarking after
-rows_marking n m cs h after done = rows_stay n m cs (watch.Marking h) after done tt
+back_marking : (m : ℕ) (held : List Value) (rs : List ℕ) (q : Watch) → IsMarking q → IsMarking (put_back m held rs q)
+back_marking m held [] q is = is
+back_marking m held (r ∷ rs) (watch.Marking x) is = back_marking m held rs (put m r (get_or held r value.Nil) (watch.Marking x)) tt
+back_marking m held (r ∷ rs) _ is = absurd is
+
+rows_marking : (n m : ℕ) (borrowed : List ℕ) (ks : List Task) (h : Hybrid) (after : Watch) → AreRows n m borrowed ks (watch.Marking h) after → IsMarking after
+rows_marking n m borrowed ks h after d =
+    subst IsMarking (sym d.1.2) (back_marking m (registers_in m (watch.Marking h)) borrowed d.1.0 (tasks_stay n m ks (watch.Marking h) d.1.0 d.1.1 tt))
 
 count_marking : (m : ℕ) (q after : Watch) → CountsAsScanned m q after → IsMarking q → IsMarking after
 count_marking m (watch.Marking h) after (inl can) is = subst IsMarking (sym can.2) tt
@@ -49,12 +57,12 @@ count_marking m watch.Stopped after (inl can) is = absurd is
 count_marking m q after (inr stays) is = subst IsMarking (sym stays.0) is
 
 exit_marking : (n m : ℕ) (h : Hybrid) (after : Watch) → CanExit n m (watch.Marking h) after → IsMarking after
-exit_marking n m h after can = count_marking m can.0 after can.2 (rows_marking n m (emptied REGISTERS) h can.0 can.1.1)
+exit_marking n m h after can = count_marking m can.0 after can.2 (rows_marking n m [] (emptied REGISTERS) h can.0 can.1)
 
 -- only a close ends a cycle, and its result lists the names that the pushes and the commands keep
 kept_by : (n : ℕ) (h : Hybrid) (e : Event) (left : CycleResult) → Can n (watch.Marking h) e (watch.Ended left) → Lists (MarksName h.watch) left.kept
 kept_by n h (event.Given m c answer) left can = absurd (not_marking left can.0 can.2)
-kept_by n h (event.Rows m commands) left can = absurd (rows_marking n m commands h (watch.Ended left) can.1)
+kept_by n h (event.Rows m borrowed tasks) left can = absurd (rows_marking n m borrowed tasks h (watch.Ended left) can)
 kept_by n h (event.Scan m) left can = absurd (not_marking left can.0 can.2)
 kept_by n h (event.Hand k answer) left can = absurd (not_marking left can.0 can.3)
 kept_by n h (event.Exit m) left can = absurd (exit_marking n m h (watch.Ended left) can)
@@ -68,7 +76,7 @@ kept_by n h _ left can = absurd can
 -- no name is due when a close ends a cycle
 paid_by : (n : ℕ) (h : Hybrid) (e : Event) (left : CycleResult) → Can n (watch.Marking h) e (watch.Ended left) → h.watch.debts ≡ []
 paid_by n h (event.Given m c answer) left can = absurd (not_marking left can.0 can.2)
-paid_by n h (event.Rows m commands) left can = absurd (rows_marking n m commands h (watch.Ended left) can.1)
+paid_by n h (event.Rows m borrowed tasks) left can = absurd (rows_marking n m borrowed tasks h (watch.Ended left) can)
 paid_by n h (event.Scan m) left can = absurd (not_marking left can.0 can.2)
 paid_by n h (event.Hand k answer) left can = absurd (not_marking left can.0 can.3)
 paid_by n h (event.Exit m) left can = absurd (exit_marking n m h (watch.Ended left) can)
@@ -82,7 +90,7 @@ paid_by n h _ left can = absurd can
 -- and all mutators are scanned
 scanned_by : (n : ℕ) (h : Hybrid) (e : Event) (left : CycleResult) → Can n (watch.Marking h) e (watch.Ended left) → AreScanned h
 scanned_by n h (event.Given m c answer) left can = absurd (not_marking left can.0 can.2)
-scanned_by n h (event.Rows m commands) left can = absurd (rows_marking n m commands h (watch.Ended left) can.1)
+scanned_by n h (event.Rows m borrowed tasks) left can = absurd (rows_marking n m borrowed tasks h (watch.Ended left) can)
 scanned_by n h (event.Scan m) left can = absurd (not_marking left can.0 can.2)
 scanned_by n h (event.Hand k answer) left can = absurd (not_marking left can.0 can.3)
 scanned_by n h (event.Exit m) left can = absurd (exit_marking n m h (watch.Ended left) can)
@@ -130,12 +138,26 @@ record Ends (n : ℕ) (p : Begun) (t : Meaning) : Type 0 where
   line : t ≡ meaning.Event close
   can : Can n (watch.Marking cycle) close (watch.Ended left)
 
--- before the first cycle, several commands of one line begin no cycle
-rows_between : (n m : ℕ) (cs : List Command) (w : World) (after : Watch) → AreDone n m cs (watch.Between w) after → IsOver (begun.Watching after) → ⊥
-rows_between n m [] w after h over = subst (λ (q : Watch). IsOver (begun.Watching q)) h over
-rows_between n m (c ∷ cs) w after h over =
-    let D : Watch → Type 0 = λ q. AreDone n m cs q after in
-    rows_between n m cs h.1.0 after (subst D h.1.2 h.2) over
+-- before the first cycle, several tasks of one line begin no cycle
+tasks_between : (n m : ℕ) (ks : List Task) (w : World) (after : Watch) → AreDone n m ks (watch.Between w) after → IsOver (begun.Watching after) → ⊥
+tasks_between n m [] w after h over = subst (λ (q : Watch). IsOver (begun.Watching q)) h over
+tasks_between n m (k ∷ ks) w after h over =
+    let D : Watch → Type 0 = λ q. AreDone n m ks q after in
+    tasks_between n m ks h.1.0 after (subst D h.1.2 h.2) over
+
+-- values that are put back end no cycle
+back_over : (m : ℕ) (held : List Value) (rs : List ℕ) (q : Watch) → IsOver (begun.Watching (put_back m held rs q)) → IsOver (begun.Watching q)
+back_over m held [] q over = over
+back_over m held (r ∷ rs) (watch.Between w) over = back_over m held rs (put m r (get_or held r value.Nil) (watch.Between w)) over
+back_over m held (r ∷ rs) (watch.Marking h) over = back_over m held rs (put m r (get_or held r value.Nil) (watch.Marking h)) over
+back_over m held (r ∷ rs) (watch.Ended left) over = tt
+back_over m held (r ∷ rs) watch.Stopped over = tt
+
+rows_between : (n m : ℕ) (borrowed : List ℕ) (ks : List Task) (w : World) (after : Watch) → AreRows n m borrowed ks (watch.Between w) after →
+    IsOver (begun.Watching after) → ⊥
+rows_between n m borrowed ks w after d over =
+    tasks_between n m ks w d.1.0 d.1.1 (back_over m (registers_in m (watch.Between w)) borrowed d.1.0
+    (subst (λ (q : Watch). IsOver (begun.Watching q)) d.1.2 over))
 
 -- a mutator that counts as scanned ends no cycle
 over_before : (m : ℕ) (q after : Watch) → CountsAsScanned m q after → IsOver (begun.Watching after) → IsOver (begun.Watching q)
@@ -148,10 +170,10 @@ over_before m q after (inr stays) over = subst (λ (x : Watch). IsOver (begun.Wa
 -- before the first cycle no event ends a cycle
 not_over : (n : ℕ) (w : World) (e : Event) (after : Watch) → Can n (watch.Between w) e after → IsOver (begun.Watching after) → ⊥
 not_over n w (event.Given m c answer) after can over = subst (λ (q : Watch). IsOver (begun.Watching q)) can.2 over
-not_over n w (event.Rows m commands) after can over = rows_between n m commands w after can.1 over
+not_over n w (event.Rows m borrowed tasks) after can over = rows_between n m borrowed tasks w after can over
 not_over n w (event.Hand k answer) after can over = subst (λ (q : Watch). IsOver (begun.Watching q)) can.2 over
 not_over n w (event.Exit m) after can over =
-    rows_between n m (emptied REGISTERS) w can.0 can.1.1 (over_before m can.0 after can.2 over)
+    rows_between n m [] (emptied REGISTERS) w can.0 can.1 (over_before m can.0 after can.2 over)
 not_over n w event.Mark after can over = subst (λ (q : Watch). IsOver (begun.Watching q)) can over
 not_over n w event.MarkShared after can over = subst (λ (q : Watch). IsOver (begun.Watching q)) can over
 not_over n w _ after can over = can
@@ -159,7 +181,7 @@ not_over n w _ after can over = can
 -- one event never leads from a cycle to the stop
 not_stopped : (n : ℕ) (h : Hybrid) (e : Event) → Can n (watch.Marking h) e watch.Stopped → ⊥
 not_stopped n h (event.Given m c answer) can = stopped_marking can.0 can.2
-not_stopped n h (event.Rows m commands) can = rows_marking n m commands h watch.Stopped can.1
+not_stopped n h (event.Rows m borrowed tasks) can = rows_marking n m borrowed tasks h watch.Stopped can
 not_stopped n h (event.Scan m) can = stopped_marking can.0 can.2
 not_stopped n h (event.Hand k answer) can = stopped_marking can.0 can.3
 not_stopped n h (event.Exit m) can = exit_marking n m h watch.Stopped can

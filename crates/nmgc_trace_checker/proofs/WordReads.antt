@@ -1,7 +1,7 @@
 -- Tokens are read as they are spelled, and in no other way.
-use Rattle.nmgc_trace_checker.proofs.Vocabulary.{◌≡◌, ◌<◌, ◌≤◌, ◌+◌, ◌-◌, ◌%◌, ◌^◌, ◌⊎◌, ℕ, List, [], ◌∷◌, ◌++◌, map, length, refl, sym, ap, subst, ◌∙◌, arith, inl, inr, Bool, true, false, eqb, decimal, codes, Option, Some, None, ◌&&◌, All, AllByRecursion, bytes_eq, cases_Bool, cond-true, cond-false, eqb-true, ne_eqb, decimal_by_steps, decimal_nonempty, All-from_recursion, recursion_from_All, same_Some, none-some, bytes_eq-Decides, REGISTERS, SHARED_MAKER, Name, Value, Operand, Command, Reply, IsRegister, IsOperand, IsName, register_word, operand_word, name_text, value_text, reply_text, IsValue, ◌>>=◌, number_at, dotted_at, name_at, value_at, Reads, bind_some, guard_some, number_takes, number_again, name_reads, value_reads, chosen, Copying, Filling, copied, filled, byte_at, short_at, register_at, operand_at, each_at, no_names_at, names_at, pusher_at, done_at, refused_at, nothing_at, or_else, reply_at, onto_command, answered_at, parts_at, place_at, span_at, copying_of, copy_at, copying_at, fill_at, filling_at, rows_at, rows_if, IsReply, given_words, copy_words, IsCopying, fill_words, IsFilling, IsPusher, names_words}
+use Rattle.nmgc_trace_checker.proofs.Vocabulary.{◌≡◌, ◌<◌, ◌≤◌, ◌+◌, ◌-◌, ◌%◌, ◌^◌, ◌⊎◌, ℕ, List, [], ◌∷◌, ◌++◌, map, length, refl, sym, ap, subst, ◌∙◌, arith, inl, inr, Bool, true, false, eqb, decimal, codes, Option, Some, None, ◌&&◌, All, AllByRecursion, bytes_eq, cases_Bool, cond-true, cond-false, eqb-true, ne_eqb, decimal_by_steps, decimal_nonempty, All-from_recursion, recursion_from_All, same_Some, none-some, bytes_eq-Decides, REGISTERS, SHARED_MAKER, Name, Value, Operand, Reply, IsRegister, IsOperand, IsName, register_word, operand_word, name_text, value_text, reply_text, IsValue, ◌>>=◌, number_at, dotted_at, name_at, value_at, Reads, bind_some, guard_some, number_takes, number_again, name_reads, value_reads, chosen, Copying, Filling, copied, filled, byte_at, short_at, register_at, operand_at, each_at, no_names_at, names_at, pusher_at, done_at, refused_at, nothing_at, or_else, reply_at, onto_command, answered_at, parts_at, place_at, span_at, copying_of, copy_at, copying_at, fill_at, filling_at, rows_at, rows_if, IsReply, given_words, copy_words, IsCopying, fill_words, IsFilling, IsPusher, names_words}
 use Rattle.nmgc_world_spec.specs.declared.value.Value.TheVariants as value
-use Rattle.nmgc_barrier_checker.specs.declared.hand.Hand.{Hand}
+use Rattle.nmgc_barrier_checker.specs.declared.{hand.Hand.Hand, rows.Task.Task}
 use Rattle.nmgc_trace_checker.specs.{Reading.hand_words_at, Reading.hand_at, Said.hand_words}
 use Rattle.nmgc_world_spec.specs.declared.command.Operand.TheVariants as operand
 use Rattle.nmgc_world_spec.specs.declared.command.Reply.TheVariants as reply
@@ -463,39 +463,39 @@ unfolding filling_at fill_at
 filling_again k h = rw (place_again k.object k.first h.object h.first, short_again k.count h.count, operand_reads.again k.value h.value) refl
 
 -- a copy or a fill, in these tokens
-abbrev pub AreRows : List (List ℕ) → List Command → Type 0
-AreRows words commands = ((k : Copying) × IsCopying k × (words ≡ copy_words k) × (commands ≡ copied k k.count)) ⊎
-    ((k : Filling) × IsFilling k × (words ≡ fill_words k) × (commands ≡ filled k k.count))
+abbrev pub AreRows : List (List ℕ) → List Task → Type 0
+AreRows words tasks = ((k : Copying) × IsCopying k × (words ≡ copy_words k) × (tasks ≡ copied k k.count)) ⊎
+    ((k : Filling) × IsFilling k × (words ≡ fill_words k) × (tasks ≡ filled k k.count))
 
-rows_takes : (words : List (List ℕ)) (commands : List Command) → rows_at words ≡ Some commands → AreRows words commands
+rows_takes : (words : List (List ℕ)) (tasks : List Task) → rows_at words ≡ Some tasks → AreRows words tasks
 unfolding rows_at
-rows_takes [] commands e = absurd cc
-rows_takes (verb ∷ words) commands e = elim (chosen (bytes_eq verb (codes "copy")) (copying_at words >>= λ k. Some (copied k k.count)) _ (Some commands) e) [
+rows_takes [] tasks e = absurd cc
+rows_takes (verb ∷ words) tasks e = elim (chosen (bytes_eq verb (codes "copy")) (copying_at words >>= λ k. Some (copied k k.count)) _ (Some tasks) e) [
   | inl p ↦
-      let k = bind_some (copying_at words) (λ k. Some (copied k k.count)) commands p.1 in
+      let k = bind_some (copying_at words) (λ k. Some (copied k k.count)) tasks p.1 in
       let t : Copies words k.0 = copying_takes words k.0 k.1 in
-      inl (k.0, t.0, ap (λ (w : List ℕ). w ∷ words) (is_word verb (codes "copy") p.0) ∙ t.1, sym (same_Some (copied k.0 k.0.count) commands k.2))
+      inl (k.0, t.0, ap (λ (w : List ℕ). w ∷ words) (is_word verb (codes "copy") p.0) ∙ t.1, sym (same_Some (copied k.0 k.0.count) tasks k.2))
   | inr p ↦
-      let g = guard_some (bytes_eq verb (codes "fill")) (filling_at words >>= λ k. Some (filled k k.count)) commands p.1 in
-      let k = bind_some (filling_at words) (λ k. Some (filled k k.count)) commands g.1 in
+      let g = guard_some (bytes_eq verb (codes "fill")) (filling_at words >>= λ k. Some (filled k k.count)) tasks p.1 in
+      let k = bind_some (filling_at words) (λ k. Some (filled k k.count)) tasks g.1 in
       let t : Fills words k.0 = filling_takes words k.0 k.1 in
-      inr (k.0, t.0, ap (λ (w : List ℕ). w ∷ words) (is_word verb (codes "fill") g.0) ∙ t.1, sym (same_Some (filled k.0 k.0.count) commands k.2))
+      inr (k.0, t.0, ap (λ (w : List ℕ). w ∷ words) (is_word verb (codes "fill") g.0) ∙ t.1, sym (same_Some (filled k.0 k.0.count) tasks k.2))
 ]
 
-rows_again : (words : List (List ℕ)) (commands : List Command) → AreRows words commands → rows_at words ≡ Some commands
+rows_again : (words : List (List ℕ)) (tasks : List Task) → AreRows words tasks → rows_at words ≡ Some tasks
 unfolding rows_at
-rows_again words commands (inl h) =
-    subst (λ (ws : List (List ℕ)). rows_at ws ≡ Some commands) (sym h.2) (rw (copying_again h.0 h.1) (ap (λ (cs : List Command). Some cs) (sym h.3)))
-rows_again words commands (inr h) =
-    subst (λ (ws : List (List ℕ)). rows_at ws ≡ Some commands) (sym h.2) (rw (filling_again h.0 h.1) (ap (λ (cs : List Command). Some cs) (sym h.3)))
+rows_again words tasks (inl h) =
+    subst (λ (ws : List (List ℕ)). rows_at ws ≡ Some tasks) (sym h.2) (rw (copying_again h.0 h.1) (ap (λ (ks : List Task). Some ks) (sym h.3)))
+rows_again words tasks (inr h) =
+    subst (λ (ws : List (List ℕ)). rows_at ws ≡ Some tasks) (sym h.2) (rw (filling_again h.0 h.1) (ap (λ (ks : List Task). Some ks) (sym h.3)))
 
-pub rows_if_takes : (answer : Reply) (words : List (List ℕ)) (commands : List Command) → rows_if answer words ≡ Some commands →
-    (answer ≡ reply.Fine) × AreRows words commands
-rows_if_takes reply.Fine words commands e = (refl, rows_takes words commands e)
-rows_if_takes answer words commands e = absurd cc
+pub rows_if_takes : (answer : Reply) (words : List (List ℕ)) (tasks : List Task) → rows_if answer words ≡ Some tasks →
+    (answer ≡ reply.Fine) × AreRows words tasks
+rows_if_takes reply.Fine words tasks e = (refl, rows_takes words tasks e)
+rows_if_takes answer words tasks e = absurd cc
 
-pub rows_if_again : (words : List (List ℕ)) (commands : List Command) → AreRows words commands → rows_if reply.Fine words ≡ Some commands
-rows_if_again words commands h = rows_again words commands h
+pub rows_if_again : (words : List (List ℕ)) (tasks : List Task) → AreRows words tasks → rows_if reply.Fine words ≡ Some tasks
+rows_if_again words tasks h = rows_again words tasks h
 
 -- VALUES HANDED OVER
 

@@ -1,4 +1,7 @@
+pub mod Borrowing
+pub mod Immediates
 pub mod Kept
+pub mod Meanings
 pub mod Notes
 pub mod Outcomes
 pub mod Program

@@ -37,7 +37,7 @@ no_counts = record { cycles = 0; commands = 0; pushes = 0 }
 -- adds a push. Each count stops at 2^64 - 1
 abbrev pub with_event : Counts → Event → Counts
 with_event c (event.Given m k answer) = record c { commands = next c.commands }
-with_event c (event.Rows m ks) = record c { commands = next c.commands }
+with_event c (event.Rows m borrowed ks) = record c { commands = next c.commands }
 with_event c (event.Hand k answer) = record c { commands = next c.commands }
 with_event c (event.Push name) = record c { pushes = next c.pushes }
 with_event c event.Close = record c { cycles = next c.cycles }

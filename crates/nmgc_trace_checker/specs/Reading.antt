@@ -7,7 +7,7 @@ use Rattle.nmgc_world_spec.specs.declared.command.Operand.TheVariants as operand
 use Rattle.nmgc_world_spec.specs.declared.command.Reply.TheVariants as reply
 use Rattle.nmgc_snapshot_laws.specs.declared.event.Event.TheVariants as core
 use Rattle.nmgc_barrier_checker.specs.declared.event.Event.TheVariants as event
-use Rattle.nmgc_barrier_checker.specs.{declared.hand.Hand.Hand, declared.rows.Copying.Copying, declared.rows.Filling.Filling, Rows.copied, Rows.filled}
+use Rattle.nmgc_barrier_checker.specs.{declared.hand.Hand.Hand, declared.rows.Copying.Copying, declared.rows.Filling.Filling, declared.rows.Task.Task, Rows.copied, Rows.filled}
 use Rattle.nmgc_lists.specs.declared.memory.NoMemory.{NoMemory}
 use Rattle.nmgc_io.specs.Text.{spaced}
 use Rattle.nmgc_script.specs.{declared.fault.ScriptFault.ScriptFault, declared.script.Script.Script, Spelling.command_words}
@@ -207,23 +207,23 @@ unfoldable pub filling_at : List (List ℕ) → Option Filling
 filling_at (object ∷ first ∷ count ∷ value ∷ []) = fill_at object first count value
 filling_at words = None
 
--- the commands of a copy, and of a fill
-abbrev pub copied_of : Copying → List Command
+-- the tasks of a copy, and of a fill
+abbrev pub copied_of : Copying → List Task
 copied_of k = copied k k.count
 
-abbrev pub filled_of : Filling → List Command
+abbrev pub filled_of : Filling → List Task
 filled_of k = filled k k.count
 
--- the commands of the copy or the fill that tokens spell
-unfoldable pub rows_at : List (List ℕ) → Option (List Command)
+-- the tasks of the copy or the fill that tokens spell
+unfoldable pub rows_at : List (List ℕ) → Option (List Task)
 rows_at [] = None
 rows_at (verb ∷ words) =
     if bytes_eq verb (codes "copy") then (copying_at words >>= λ k. Some (copied_of k))
     else if bytes_eq verb (codes "fill") then (filling_at words >>= λ k. Some (filled_of k))
     else None
 
--- the commands of the copy or the fill that tokens spell, if the answer says that it was done
-abbrev pub rows_if : Reply → List (List ℕ) → Option (List Command)
+-- the tasks of the copy or the fill that tokens spell, if the answer says that it was done
+abbrev pub rows_if : Reply → List (List ℕ) → Option (List Task)
 rows_if reply.Fine words = rows_at words
 rows_if answer words = None
 
@@ -320,33 +320,6 @@ plain_at (word ∷ words) =
     else if bytes_eq word (codes "scan") then scan_at words
     else if bytes_eq word (codes "ended") then exit_at words
     else ending_at word words
-
--- THE MEANING OF A LINE OF FORMAT 2
-
--- the meaning of a line with a mutator: the command that its tokens spell, or no line of a trace
-abbrev pub IsMeaningOfCommand : ℕ → List (List ℕ) → Reply → Meaning → Type 0
-IsMeaningOfCommand m words answer t = ((c : Command) × (t ≡ meaning.Event (event.Given m c answer)) × IsCommandOf words c) ⊎
-    ((t ≡ meaning.Unknown) × ((c : Command) → IsCommandOf words c → ⊥))
-
--- the meaning of a line with a mutator: the commands of a copy or a fill, or else one command
-abbrev pub IsMeaningOfRows : ℕ → List (List ℕ) → Reply → Option (List Command) → Meaning → Type 0
-IsMeaningOfRows m words answer (Some commands) t = t ≡ meaning.Event (event.Rows m commands)
-IsMeaningOfRows m words answer None t = IsMeaningOfCommand m words answer t
-
--- the meaning of a line with a mutator: a value handed over, or else commands
-abbrev pub IsMeaningOfHand : ℕ → List (List ℕ) → Reply → Option Hand → Meaning → Type 0
-IsMeaningOfHand m words answer (Some k) t = t ≡ meaning.Event (event.Hand k answer)
-IsMeaningOfHand m words answer None t = IsMeaningOfRows m words answer (rows_if answer words) t
-
--- the meaning of a line by its parts: a value handed over or commands, or no line of a trace if there are no parts
-abbrev pub IsMeaningOfRow : Option (ℕ × List (List ℕ) × Reply) → Meaning → Type 0
-IsMeaningOfRow (Some p) t = IsMeaningOfHand p.0 p.1 p.2 (hand_at p.0 p.1) t
-IsMeaningOfRow None t = t ≡ meaning.Unknown
-
--- the meaning of a line by its keyword or, without a keyword, as commands of a mutator
-abbrev pub IsMeaningBy : Option Meaning → List (List ℕ) → Meaning → Type 0
-IsMeaningBy (Some plain) words t = t ≡ plain
-IsMeaningBy None words t = IsMeaningOfRow (parts_at words) t
 
 -- FORMAT 1, EXCEPT COMMANDS
 

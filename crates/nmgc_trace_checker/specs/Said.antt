@@ -5,13 +5,13 @@ use Rattle.nmgc_world_spec.specs.{declared.value.Name.Name, declared.command.Com
 use Rattle.nmgc_world_spec.specs.declared.command.Reply.TheVariants as reply
 use Rattle.nmgc_snapshot_laws.specs.declared.event.Event.{Event as CoreEvent}
 use Rattle.nmgc_snapshot_laws.specs.declared.event.Event.TheVariants as core
-use Rattle.nmgc_barrier_checker.specs.{declared.event.Event.Event, declared.hand.Hand.Hand, declared.rows.Copying.Copying, declared.rows.Filling.Filling, Rows.copied, Rows.filled}
+use Rattle.nmgc_barrier_checker.specs.{declared.event.Event.Event, declared.hand.Hand.Hand, declared.rows.Copying.Copying, declared.rows.Filling.Filling, declared.rows.Task.Task, Rows.copied, Rows.filled}
 use Rattle.nmgc_barrier_checker.specs.declared.event.Event.TheVariants as event
 use Rattle.nmgc_object.specs.Words.{IsName}
 use Rattle.nmgc_io.specs.Text.{lines_of, tokens_of, is_blank_or_comment}
 use Rattle.nmgc_script.specs.{Spelling.register_word, Spelling.operand_word, Spelling.command_words}
 use Rattle.nmgc_journal.specs.Text.{name_text, reply_text, IsValue}
-use Rattle.nmgc_trace_checker.specs.{declared.line.Line.Line, declared.meaning.Meaning.Meaning}
+use Rattle.nmgc_trace_checker.specs.{declared.line.Line.Line, declared.meaning.Meaning.Meaning, Borrowing.borrowing_at, Immediates.HasImmediates}
 use Rattle.nmgc_trace_checker.specs.declared.line.Line.TheVariants as line
 use Rattle.nmgc_trace_checker.specs.declared.meaning.Meaning.TheVariants as meaning
 
@@ -73,13 +73,13 @@ pub record IsCopying (k : Copying) : Type 0 where
   pub via : IsRegister k.via
   pub down : k.down ≡ nat_lt k.first k.place
 
--- tokens that say a copy that was done, with the commands of the copy
-pub record IsCopied (words : List (List ℕ)) (m : ℕ) (commands : List Command) : Type 0 where
+-- tokens that say a copy that was done, with the tasks of the copy
+pub record IsCopied (words : List (List ℕ)) (m : ℕ) (tasks : List Task) : Type 0 where
   pub mutator : m < 256
   pub copying : Copying
   pub valid : IsCopying copying
   pub words_are : words ≡ given_words m (copy_words copying) (codes "ok")
-  pub commands_are : commands ≡ copied copying copying.count
+  pub tasks_are : tasks ≡ copied copying copying.count
 
 -- the tokens of a fill
 abbrev pub fill_words : Filling → List (List ℕ)
@@ -92,13 +92,36 @@ pub record IsFilling (k : Filling) : Type 0 where
   pub count : k.count < 65536
   pub value : IsOperand k.value
 
--- tokens that say a fill that was done, with the commands of the fill
-pub record IsFilled (words : List (List ℕ)) (m : ℕ) (commands : List Command) : Type 0 where
+-- tokens that say a fill that was done, with the tasks of the fill
+pub record IsFilled (words : List (List ℕ)) (m : ℕ) (tasks : List Task) : Type 0 where
   pub mutator : m < 256
   pub filling : Filling
   pub valid : IsFilling filling
   pub words_are : words ≡ given_words m (fill_words filling) (codes "ok")
-  pub commands_are : commands ≡ filled filling filling.count
+  pub tasks_are : tasks ≡ filled filling filling.count
+
+-- tokens that say tasks with borrowed registers, as `borrowing_at` reads them from the tokens after the mutator
+pub record IsBorrowing (words : List (List ℕ)) (m : ℕ) (borrowed : List ℕ) (tasks : List Task) : Type 0 where
+  pub mutator : m < 256
+  pub command : List (List ℕ)
+  pub answer : Reply
+  pub reply : IsReply answer
+  pub words_are : words ≡ given_words m command (reply_text answer)
+  pub reads : borrowing_at answer command ≡ Some (record { borrowed = borrowed; tasks = tasks })
+
+-- tokens that say a command with numbers or nil as operands, as `HasImmediates` reads the tokens after the mutator
+pub record IsImmediate (words : List (List ℕ)) (m : ℕ) (borrowed : List ℕ) (tasks : List Task) : Type 0 where
+  pub mutator : m < 256
+  pub command : List (List ℕ)
+  pub answer : Reply
+  pub reply : IsReply answer
+  pub words_are : words ≡ given_words m command (reply_text answer)
+  pub reads : HasImmediates answer command (record { borrowed = borrowed; tasks = tasks })
+
+-- tokens that say tasks of a mutator: a copy or a fill, with borrowed registers or without, or a command with immediates
+abbrev pub SaysRows : List (List ℕ) → ℕ → List ℕ → List Task → Type 0
+SaysRows words m borrowed tasks = ((borrowed ≡ []) × (IsCopied words m tasks ⊎ IsFilled words m tasks)) ⊎
+    (IsBorrowing words m borrowed tasks ⊎ IsImmediate words m borrowed tasks)
 
 -- the tokens of a value that is handed over, after its mutator
 abbrev pub hand_words : Hand → List (List ℕ)
@@ -131,7 +154,7 @@ AreNames words word names = All IsName names × (words ≡ word ∷ names_words 
 -- tokens that say an event of a runtime
 abbrev pub SaysEvent : List (List ℕ) → Event → Type 0
 SaysEvent words (event.Given m c answer) = IsGiven words m c answer
-SaysEvent words (event.Rows m commands) = IsCopied words m commands ⊎ IsFilled words m commands
+SaysEvent words (event.Rows m borrowed tasks) = SaysRows words m borrowed tasks
 SaysEvent words (event.Hand k answer) = IsHanded words k answer
 SaysEvent words event.Mark = words ≡ codes "mark" ∷ []
 SaysEvent words event.MarkShared = words ≡ codes "mark" ∷ codes "g" ∷ []

@@ -168,8 +168,8 @@ fn push_words(line: &mut Vec<u8>, words: &[&[u8]]) -> Result<(), NoMemory>
     Ok(())
 }
 
-// Returns the command that a line of a script spells, or `None` exactly if it spells no command.
-fn command_of(alloc: Global, line: &[u8]) -> Result<Option<Command>, NoMemory>
+/// Returns the command that a line of a script spells, or `None` exactly if it spells no command.
+pub(crate) fn command_of(alloc: Global, line: &[u8]) -> Result<Option<Command>, NoMemory>
     ensures { IfOk result (IsSpelledIf line.now) }
 {
     if has_feed(line) {

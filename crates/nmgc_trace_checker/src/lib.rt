@@ -3,7 +3,7 @@
 //! - Format 1: `line` is the meaning of a line, `progress` the state of a trace, `verdict` the result. The marking machine
 //!   (`nmgc_core`) does the lines one by one, marker included.
 //! - Format 2: `meaning` is the meaning of a line, and `report` the result for a trace. `checker` finds it line by line, with
-//!   `counts` of the lines. The barrier is watched (`nmgc_barrier_checker`). `sentence` spells the reason of a refusal.
+//!   `counts` of the lines. `borrowing`: lines with values that no register holds, and `immediates`: commands with numbers or nil as operands. The barrier is watched (`nmgc_barrier_checker`). `sentence` spells the reason of a refusal.
 //! - `reading`: a trace of either format, read line by line.
 //! - `program`: all arguments, the output and the `status`; only files, streams and the command line are left to the program.
 //!
@@ -12,9 +12,11 @@
 //! `docs/GUIDE.md` has the forms). If a reader shows contracts its bytes, the judged lines are the lines of its text.
 #![tactic(auto)]
 
+mod borrowing;
 mod checker;
 mod commands;
 mod counts;
+mod immediates;
 mod line;
 mod meaning;
 mod program;

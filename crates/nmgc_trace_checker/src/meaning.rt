@@ -2,17 +2,19 @@
 //! name. There is no marker: no line scans an object or drains. A take only reports a name that the runtime's own marker took,
 //! `scan` only that a mutator's registers are read, and `ended` that they are gone.
 ghost use Rattle.std.specs.Prelude.{◌≡◌, map, IfOk};
-ghost use Rattle.nmgc_trace_checker.specs.Reading.{shared_mark_at, scan_at, exit_at, black_at, short_at, place_at, span_at, copying_of, copy_at, copying_at, fill_at, filling_at, hand_words_at, hand_at, rows_at, rows_if, mutators_at, mark_at, push_at, settle_at, take_at, close_at, marked_at, freed_at, stop_at, ending_at, plain_at, parts_at, IsMeaningBy, IsMeaningOfRow, IsMeaningOfRows};
-ghost use Rattle.nmgc_trace_checker.specs.Said.{Says};
+ghost use Rattle.nmgc_trace_checker.specs.Reading.{shared_mark_at, scan_at, exit_at, black_at, short_at, place_at, span_at, copying_of, copy_at, copying_at, fill_at, filling_at, hand_words_at, hand_at, rows_at, rows_if, mutators_at, mark_at, push_at, settle_at, take_at, close_at, marked_at, freed_at, stop_at, ending_at, plain_at, parts_at};
+ghost use Rattle.nmgc_trace_checker.specs.{Borrowing.borrowing_at, Meanings.IsMeaningBy, Meanings.IsMeaningOfBorrowing, Meanings.IsMeaningOfImmediates, Meanings.IsMeaningOfRow, Meanings.IsMeaningOfRows, Said.Says};
 
+use crate::borrowing::borrowing;
 use crate::commands::{command, parts};
+use crate::immediates::immediate_rows;
 use crate::tokens::{byte, names, operand, pusher, register, short};
-use nmgc_barrier_checker::rows::{copy_commands, fill_commands};
-use nmgc_barrier_checker::{Copying, Event, Filling, Hand};
+use nmgc_barrier_checker::rows::{copy_tasks, fill_tasks};
+use nmgc_barrier_checker::{Copying, Event, Filling, Hand, Task};
 use nmgc_io::{cut_tokens, is_blank_or_comment};
 use nmgc_journal::read_name;
 use nmgc_lists::{List, NoMemory};
-use nmgc_world_spec::{Command, Operand, Reply};
+use nmgc_world_spec::{Operand, Reply};
 use std::alloc::Global;
 
 /// The meaning of a line.
@@ -277,7 +279,7 @@ fn mutator_meaning(alloc: Global, words: &[&[u8]]) -> Result<Meaning, NoMemory>
     Ok(meaning)
 }
 
-// Returns the meaning of a mutator's tokens with their answer: the commands of a copy or a fill, a command, or `Unknown`.
+// Returns the meaning of a mutator's tokens with their answer: the tasks of a copy or a fill, or as `command_meaning`.
 fn commands_meaning(
     alloc: Global,
     mutator: u8,
@@ -286,14 +288,58 @@ fn commands_meaning(
 ) -> Result<Meaning, NoMemory>
     ensures { IfOk result (IsMeaningOfRows mutator (map (λ w. w.now) words.now) answer (rows_if answer (map (λ w. w.now) words.now))) }
 {
-    if let Some(commands) = rows_if(alloc, answer, words)? {
-        return Ok(Meaning::Event(Event::Rows { mutator, commands }));
+    if let Some(tasks) = rows_if(alloc, answer, words)? {
+        return Ok(Meaning::Event(Event::Rows {
+            mutator,
+            borrowed: List::new(alloc),
+            tasks,
+        }));
+    }
+    let meaning = command_meaning(alloc, mutator, words, answer)?;
+    Ok(meaning)
+}
+
+// Returns the meaning of a mutator's tokens with their answer: a line that borrows registers, a command, or as
+// `immediate_meaning`.
+fn command_meaning(
+    alloc: Global,
+    mutator: u8,
+    words: &[&[u8]],
+    answer: Reply,
+) -> Result<Meaning, NoMemory>
+    ensures { IfOk result (IsMeaningOfBorrowing mutator (map (λ w. w.now) words.now) answer (borrowing_at answer (map (λ w. w.now) words.now))) }
+{
+    if let Some(rows) = borrowing(alloc, answer, words)? {
+        return Ok(Meaning::Event(Event::Rows {
+            mutator,
+            borrowed: rows.borrowed,
+            tasks: rows.tasks,
+        }));
     }
     match command(alloc, words)? {
         Some(command) => Ok(Meaning::Event(Event::Given {
             mutator,
             command,
             answer,
+        })),
+        None => immediate_meaning(alloc, mutator, words, answer),
+    }
+}
+
+// Returns the meaning of a mutator's tokens with their answer: a command with a register for each immediate, or `Unknown`.
+fn immediate_meaning(
+    alloc: Global,
+    mutator: u8,
+    words: &[&[u8]],
+    answer: Reply,
+) -> Result<Meaning, NoMemory>
+    ensures { IfOk result (IsMeaningOfImmediates mutator (map (λ w. w.now) words.now) answer) }
+{
+    match immediate_rows(alloc, answer, words)? {
+        Some(rows) => Ok(Meaning::Event(Event::Rows {
+            mutator,
+            borrowed: rows.borrowed,
+            tasks: rows.tasks,
         })),
         None => Ok(Meaning::Unknown),
     }
@@ -332,8 +378,8 @@ fn hand_of(mutator: u8, words: &[&[u8]]) -> Option<Hand>
     })
 }
 
-// Returns the commands of the copy or the fill that tokens spell, or `None`; also `None` if the answer isn't `Fine`.
-fn rows_if(alloc: Global, answer: Reply, words: &[&[u8]]) -> Result<Option<List<Command>>, NoMemory>
+// Returns the tasks of the copy or the fill that tokens spell, or `None`; also `None` if the answer isn't `Fine`.
+fn rows_if(alloc: Global, answer: Reply, words: &[&[u8]]) -> Result<Option<List<Task>>, NoMemory>
     ensures { IfOk result (λ rows. rows ≡ rows_if answer (map (λ w. w.now) words.now)) }
 {
     match answer {
@@ -342,9 +388,9 @@ fn rows_if(alloc: Global, answer: Reply, words: &[&[u8]]) -> Result<Option<List<
     }
 }
 
-// Returns the commands of the copy or the fill that tokens spell, or `None`.
+// Returns the tasks of the copy or the fill that tokens spell, or `None`.
 #[tactic(auto, unfolding(crate::specs::Reading::rows_at))]
-fn rows(alloc: Global, words: &[&[u8]]) -> Result<Option<List<Command>>, NoMemory>
+fn rows(alloc: Global, words: &[&[u8]]) -> Result<Option<List<Task>>, NoMemory>
     ensures { IfOk result (λ rows. rows ≡ rows_at (map (λ w. w.now) words.now)) }
 {
     let [verb, rest @ ..] = words else {
@@ -354,13 +400,13 @@ fn rows(alloc: Global, words: &[&[u8]]) -> Result<Option<List<Command>>, NoMemor
         let Some(copying) = copying(rest) else {
             return Ok(None);
         };
-        return Ok(Some(copy_commands(alloc, copying)?));
+        return Ok(Some(copy_tasks(alloc, copying)?));
     }
     if *verb == b"fill".as_slice() {
         let Some(filling) = filling(rest) else {
             return Ok(None);
         };
-        return Ok(Some(fill_commands(alloc, filling)?));
+        return Ok(Some(fill_tasks(alloc, filling)?));
     }
     Ok(None)
 }
@@ -405,9 +451,9 @@ fn copy(
     })
 }
 
-// Returns the object and the index of a field that two tokens spell, or `None`.
+/// Returns the object and the index of a field that two tokens spell, or `None`. Takes no memory.
 #[tactic(auto, unfolding(crate::specs::Reading::place_at))]
-fn place_of(object: &[u8], index: &[u8]) -> Option<(Operand, u32)>
+pub(crate) fn place_of(object: &[u8], index: &[u8]) -> Option<(Operand, u32)>
     ensures { result ≡ place_at object.now index.now }
 {
     let object = operand(object)?;

@@ -1,4 +1,4 @@
-use Rattle.nmgc_barrier_checker.proofs.{Vocabulary.◌≡◌, Vocabulary.refl, Vocabulary.subst, Vocabulary.Value, Vocabulary.Cycle, CycleLaws.seen, Hands.counts_given, Hands.given_then}
+use Rattle.nmgc_barrier_checker.proofs.{Vocabulary.◌≡◌, Vocabulary.refl, Vocabulary.subst, Vocabulary.Value, CycleLaws.seen, Hands.counts_given, Hands.given_then}
 use Rattle.nmgc_world_spec.specs.World.{with_register}
 use Rattle.nmgc_barrier_checker.specs.Cycles.{with_scans}
 use Rattle.nmgc_barrier_checker.proofs.cycle.Cycle.hand.Goals as goal

@@ -1,5 +1,0 @@
-use Rattle.nmgc_barrier_checker.proofs.Vocabulary.{◌≡◌, copied}
-use Rattle.nmgc_barrier_checker.proofs.rows.copy_commands.Given as goal
-
-abbrev pub invariant-loop-turn : goal.invariant-loop-turn
-invariant-loop-turn l = l.commands ≡ copied l.copying l.turn
