@@ -10,8 +10,11 @@ pub mod Observed
 pub mod Programs
 pub mod Roots
 pub mod RoundLaws
+pub mod ScriptRuns
 pub mod Shown
+pub mod SoFar
 pub mod Steps
 pub mod StopLaws
 pub mod Stopping
 pub mod Working
+pub mod laws

@@ -13,7 +13,7 @@ use Rattle.nmgc_run_laws.specs.{Limits.FitsRun, Limits.most_commands, Longer.lon
 use Rattle.nmgc_collector_laws.specs.Worked.{Done}
 use Rattle.nmgc_round.specs.{declared.table.Round.Round, View.Opening}
 use Rattle.nmgc_mutator.specs.{declared.mutator.Mutator.Mutator, declared.program.Listed.Listed, Programs.Gives, Programs.Follows, Slice.HasRoom}
-use Rattle.nmgc_cycle.specs.{declared.collector.Collector.Collector, declared.worker.Worker.Worker, Keeps.CanStop, Keeps.DidRound, Keeps.HasEnded, Working.left_at, Working.DidSlices, Working.HaveAllWorked, Working.HaveTried, Working.in_blocks}
+use Rattle.nmgc_cycle.specs.{declared.collector.Collector.Collector, declared.worker.Worker.Worker, Keeps.DidRound, Keeps.HasEnded, Working.left_at, Working.DidSlices, Working.HaveAllWorked, Working.HaveTried, Working.in_blocks}
 use Rattle.nmgc_mutator.specs.declared.mutator.TheConstants.{MOST_PUSHED}
 use Rattle.nmgc_updrem.specs.Rings.{Receiver}
 
@@ -161,19 +161,6 @@ script_of next config given programs = record { version = version_3.number; conf
 -- the replies of mutator k in a report, round by round
 abbrev pub all_replies : List RoundRows → ℕ → List Reply
 all_replies rounds k = flat_map (λ (rows : RoundRows). slice_index_or rows.replies k []) rounds
-
--- the script of a run so far, before a stop: the commands that each program gave, and then its waiting command. The
--- script fits a run, a stop may follow, and the programs may be asked. The report's replies are those they took
-pub record IsScriptSoFar {P : Type 0} (next : P → Option Command) (steps : P → Reply → P → Type 0) (words most : P → ℕ) (valid : P → Type 0)
-    (config : Config) (before : List P) (c : Collector) (after : List P) (script : Script) : Type 0 where
-  pub given : List (List Done)
-  pub gave : GaveEach next steps words most valid before after given
-  pub is : script ≡ script_of next config given after
-  pub limits : FitsRun script
-  pub can : CanStop script c
-  pub asked : MayBeAsked words most valid script c.positions.items after
-  pub positions : (k : ℕ) (d : List Done) → slice_get given k ≡ Some d → slice_index c.positions.items k ≡ length d
-  pub replies : (k : ℕ) (d : List Done) → slice_get given k ≡ Some d → all_replies c.rows.rounds k ≡ replies_to d
 
 -- a script of this configuration, with this number of programs, all without commands
 abbrev pub HasNoCommands : Config → ℕ → Script → Type 0

@@ -5,7 +5,8 @@
 //! never be filled is taken before it, and gets none of them. A cycle takes the sweeper's lists. The first cycle also takes
 //! the marker's list, whose memory each later marker takes over.
 //!
-//! A run keeps no row: an observer is given the rows as they come (`run_observed`). `run` has an observer that keeps them.
+//! A run keeps no row: an observer is given the rows as they come (`run_observed`). `run` is a run of programs: of the script's
+//! lists (`lists_run_as_scripts`). It has an observer that keeps the rows.
 //!
 //! The report is made when nothing may fail any more. So it takes over the table of words, without a copy. The final
 //! registers, queues and serials go into a list that is empty until then, with room from the beginning (`IsWellFormed`).
@@ -30,6 +31,7 @@ use crate::name_notes::put_rows_in_order;
 use crate::observer::{Event, KeptRows, Observer, RunFault};
 use crate::past_rows::PastRows;
 use crate::progress::Progress;
+use crate::round::listed;
 use crate::stop::{StopEnd, StopRows};
 use crate::worker::WorkerRoom;
 use nmgc_alloc::Segments;
@@ -308,12 +310,9 @@ impl Collector {
         requires { IsInLimits script.now }
         ensures { IfOk result (λ report. IsRunOf script.now report) }
     {
-        let mut kept = KeptRows::new(alloc);
-        let Ok(ran) = Collector::run_observed(alloc, rt, script, gate, &mut kept) else {
-            return Err(NoMemory);
-        };
-        let (collector, end) = ran;
-        Ok(collector.into_report(kept, end))
+        let beginnings = vec![in alloc; 0u32; script.threads.items().len()]?;
+        let mut programs = listed(alloc, script, beginnings.as_slice())?;
+        Collector::run_programs(alloc, rt, &script.config, programs.as_mut_slice(), gate)
     }
 
     /// Does a whole run of a script as `run` does, and gives `observer` each event as it comes. A stop's event has its row and
@@ -365,6 +364,16 @@ impl Collector {
         ensures { result.now ≡ self.now.inbox }
     {
         &self.inbox
+    }
+
+    /// Returns the number of listed weak pointers: at a stop, of those that are alive and have a block. Takes memory and time for
+    /// the list.
+    pub fn count_weaks(&self) -> Result<usize, NoMemory>
+        ensures { IfOk result (λ count. count ≡ length self.now.heap.weaks.list) }
+    {
+        let mut all = Vec::with_capacity(self.alloc, self.heap.weaks.length_bound())?;
+        self.heap.weaks.list_into(&mut all);
+        Ok(all.len())
     }
 
     /// Turns the collector into the report of its run, which is lawful. Requires that the last stop ended the run with `end`,

@@ -4,8 +4,9 @@
 //! thread of its own, and the collector works beside them. One table of words lasts for the whole run. At a stop no mutator
 //! runs: objects are promoted into segments, the cycle advances, and the stop's row is written (Note [The steps of a stop] in
 //! stop.rt). `Collector::run` does a whole run; `new`, `stop`, `round` and `into_report` are its parts. `run_programs` does a
-//! run of programs that decide (`programs`), with `stop_programs` and `round_programs`. A script's programs are lists. Rows
-//! are handed on as they come (`past_rows`): `run_observed` gives them to an observer (`observer`), and `run` keeps them.
+//! run of programs that decide (`programs`), and `ProgramRun` does it stop by stop, with programs that may be replaced
+//! (`program_run`). A script's programs are lists. Rows are handed on as they come (`past_rows`): `run_observed` gives them to
+//! an observer (`observer`), and `run` keeps them.
 //!
 //! The invariant of a collector between calls is in `specs/Keeps.antt`. The collector's rows describe one run of the script,
 //! as `nmgc_run_spec` defines runs, and its words, segments, mutators, marker and sweeper represent the last state of this
@@ -29,6 +30,8 @@ mod full;
 mod name_notes;
 mod observer;
 mod past_rows;
+mod program_laws;
+mod program_run;
 mod programs;
 mod progress;
 mod round;
@@ -41,4 +44,6 @@ mod worker;
 pub use collector::Collector;
 pub use name_notes::put_rows_in_order;
 pub use observer::{Event, Forgetful, KeptRows, Observer, RunFault};
+pub use program_laws::lists_run_as_scripts;
+pub use program_run::{Parks, ProgramRun};
 pub use stop::{StopEnd, StopRows};

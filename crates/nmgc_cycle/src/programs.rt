@@ -12,47 +12,22 @@
 ghost use Rattle.std.specs.Prelude.{false, IfOk, OnErr};
 ghost use Rattle.nmgc_cycle.specs.{Programs.GaveSome, Programs.HasNoCommands, Programs.HasRunPrograms, Programs.IsRunOfPrograms, Programs.MayRun, Observed.ObservedPrograms, Observed.ObservedRun};
 
-use crate::collector::observe_stop;
-use crate::observer::{Event, KeptRows, Observer, RunFault};
-use crate::{Collector, StopEnd, StopRows};
+use crate::observer::{KeptRows, Observer, RunFault};
+use crate::{Collector, ProgramRun};
 use nmgc_journal::{End, Report};
 use nmgc_lists::{List, NoMemory};
 use nmgc_mutator::Program;
-use nmgc_round::witness::WitnessFor;
-use nmgc_round::{Gate, Witness};
+use nmgc_round::Gate;
 use nmgc_script::{Config, Script};
 use std::alloc::Global;
-use std::marker::PhantomData;
 use std::thread::Threads;
 
-// The programs as a run began, for proofs alone. The witness names a slice, which has the same size for all programs. It
-// borrows nothing, since a witness has no bytes.
-pub(crate) struct AtBeginning<P> {
-    marker: PhantomData<P>,
-}
-
-impl<'a, 'b, P> WitnessFor<&'a [P], &'b [P]> for AtBeginning<P> {
-    ghost use Rattle.std.specs.Prelude.{◌≡◌};
-
-    ghost wanted = { λ about programs. programs.now ≡ about.now };
-}
-
-// The script of the run so far.
-pub(crate) struct SoFar<P> {
-    marker: PhantomData<P>,
-}
-
-impl<'a, 'b, P: Program> WitnessFor<
-    (&'a Witness<&'b [P]>, &'a Config, &'a Collector, &'a [P]),
-    Script,
-> for SoFar<P> {
-    ghost use Rattle.nmgc_cycle.specs.Programs.{IsScriptSoFar};
-
-    ghost wanted = { λ about script. IsScriptSoFar P.next P.steps P.words P.most P.valid about.1.now about.0.now.value.now about.2.now about.3.now script };
-}
-
 // Returns a script with this configuration and `count` programs without commands.
-fn without_commands(alloc: Global, config: &Config, count: usize) -> Result<Script, NoMemory>
+pub(crate) fn without_commands(
+    alloc: Global,
+    config: &Config,
+    count: usize,
+) -> Result<Script, NoMemory>
     ensures { IfOk result (λ script. HasNoCommands config.now count script) }
 {
     let mut threads = List::new(alloc);
@@ -105,11 +80,11 @@ impl Collector {
     ///
     /// If the observer fails or memory is refused, the run is given up. Then the observer was given the events of a lawful run
     /// so far. If it failed itself, it did at the last of them (clause `err`). The programs are as after `run_programs`.
-    pub fn run_programs_observed<'b, R: Threads + Sync, P: Program, G: Gate, J: Observer>(
+    pub fn run_programs_observed<R: Threads + Sync, P: Program, G: Gate, J: Observer>(
         alloc: Global,
         rt: &R,
         config: &Config,
-        programs: &'b mut [P],
+        programs: &mut [P],
         gate: &G,
         observer: &mut J,
     ) -> Result<(Collector, End), RunFault>
@@ -119,26 +94,8 @@ impl Collector {
         ensures err { OnErr result (ObservedPrograms J.steps J.fails P.next P.steps P.words P.most P.valid config.now programs.old programs.new observer.old observer.new) }
         ensures gave { GaveSome P.next P.steps P.words P.most P.valid programs.old programs.new }
     {
-        let began: Witness<&'b [P]> = Witness::of::<&[P], AtBeginning<P>>(&&*programs);
-        let empty = without_commands(alloc, config, programs.len())?;
-        let mut collector = Collector::new(alloc, &empty)?;
-        'stops: loop {
-            let script = Witness::of::<(&Witness<&'b [P]>, &Config, &Collector, &[P]), SoFar<P>>(&(
-                &began, config, &collector, &*programs,
-            ));
-            let mut handed = StopRows::new(alloc);
-            let answer = collector.stop_programs(rt, config, &script, programs, &mut handed)?;
-            observe_stop(observer, handed)?;
-            match answer {
-                StopEnd::GoOn => {
-                    let rows = collector.round_programs(rt, config, &script, programs, gate)?;
-                    observer.observe(Event::Round(rows))?;
-                }
-                StopEnd::Done => return Ok((collector, End::Done)),
-                StopEnd::HeapFull { free, reserve } => {
-                    return Ok((collector, End::HeapFull { free, reserve }));
-                }
-            }
-        }
+        let mut run = ProgramRun::new(alloc, config, programs)?;
+        let end = run.run_to_end(rt, programs, gate, observer)?;
+        Ok((run.into_collector(), end))
     }
 }

@@ -105,8 +105,8 @@ pub fn known_before(script: &Script) -> Witness<Script>
     Witness::of::<&Script, KnownBefore>(&script)
 }
 
-// Returns the programs of a script from these positions on, as lists.
-fn listed<'a>(
+/// Returns the programs of a script from these positions on, as lists.
+pub(crate) fn listed<'a>(
     alloc: Global,
     script: &'a Script,
     positions: &[u32],
@@ -182,7 +182,7 @@ impl Collector {
     /// The programs stay the caller's. Even after `NoMemory` each is in the state in which it took its last reply, and gave
     /// at most its own bound of commands (clause `gave`). No other clause applies then. Requires that the last stop answered
     /// `GoOn` and no round followed.
-    pub fn round_programs<R: Threads + Sync, P: Program, G: Gate>(
+    pub(crate) fn round_programs<R: Threads + Sync, P: Program, G: Gate>(
         &mut self,
         rt: &R,
         config: &Config,

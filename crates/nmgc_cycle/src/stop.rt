@@ -132,7 +132,7 @@ impl Collector {
     /// Does a stop of a run of programs, as `stop` does for a script, and returns its answer. `script` is the script of the
     /// run so far, for proofs alone: the rest of each of its programs begins with the program's next command. Programs are
     /// only asked whether they have a next command, and none changes.
-    pub fn stop_programs<R: Threads + Sync, P: Program>(
+    pub(crate) fn stop_programs<R: Threads + Sync, P: Program>(
         &mut self,
         rt: &R,
         config: &Config,

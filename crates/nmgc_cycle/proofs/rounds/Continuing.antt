@@ -1,5 +1,5 @@
 -- The slices of workers that asked programs, as slices of a script that has the commands given.
-use Rattle.nmgc_cycle.proofs.Vocabulary.{ℕ, ◌≡◌, ◌++◌, ◌∙◌, List, [], map, length, slice_get, slice_index_or, Option, Some, refl, sym, ap, subst, arith, slice_get_within, get_or_from_slice_get, Command, Reply, Done, Round, Script, Worker, HasWorkedOn, HaveAllWorked, HasAskedOn, HaveAskedAll, left_at, Continues, GaveEach, GaveSome, item, item_map, length-map, All-nil, Fits}
+use Rattle.nmgc_cycle.proofs.Vocabulary.{ℕ, ◌≡◌, ◌++◌, ◌∙◌, List, map, length, slice_get, slice_index_or, Option, Some, refl, sym, ap, subst, arith, slice_get_within, get_or_from_slice_get, Command, Reply, Done, Round, Script, Worker, HasWorkedOn, HaveAllWorked, HasAskedOn, HaveAskedAll, left_at, Continues, GaveEach, GaveSome, item, item_map, length-map, All-nil, Fits, no_done}
 use Rattle.nmgc_cycle.proofs.{lists.Items.chosen, rounds.AskedParts.worked_as_asked}
 use Rattle.nmgc_cycle.specs.Programs.{GaveOn}
 
@@ -99,9 +99,6 @@ module _ {P : Type 0} (next : P → Option Command) (steps : P → Reply → P �
   }
 
 -- programs that weren't asked
-abbrev pub no_done : List Done
-no_done = []
-
 pub none_given : {P : Type 0} (next : P → Option Command) (steps : P → Reply → P → Type 0) (words most : P → ℕ) (valid : P → Type 0) (ps : List P) →
     ((k : ℕ) (p : P) → slice_get ps k ≡ Some p → valid p) → GaveEach next steps words most valid ps ps (map (λ (p : P). no_done) ps)
 none_given {P} next steps words most valid ps are = record {

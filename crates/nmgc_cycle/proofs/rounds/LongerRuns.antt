@@ -12,7 +12,7 @@ longer_at (p ∷ programs) (m ∷ more) zero lt = refl
 longer_at (p ∷ programs) (m ∷ more) (suc k) lt = longer_at programs more k (omega (arith, lt))
 
 -- programs may go on one by one
-may_each : (lefts more : List (List Command)) → ((k : ℕ) → k < length lefts → (program_of more k ≡ []) ⊎ (0 < length (program_of lefts k))) →
+pub may_each : (lefts more : List (List Command)) → ((k : ℕ) → k < length lefts → (program_of more k ≡ []) ⊎ (0 < length (program_of lefts k))) →
     MayGoOn lefts more
 may_each [] more h = tt
 may_each (l ∷ lefts) [] h = tt

@@ -1,7 +1,7 @@
 -- A run of programs, from stop to stop: the script so far, and the bound of its stops.
-use Rattle.nmgc_cycle.proofs.Vocabulary.{ℕ, suc, ◌≡◌, ◌↔◌, ◌+◌, ◌*◌, ◌<◌, ◌≤◌, ◌++◌, ◌∙◌, List, [], ◌∷◌, map, length, slice_get, slice_get_within, slice_index, slice_index_or, Option, Some, refl, sym, ap, subst, arith, inl, inr, append_assoc, append-nil, length-append, map-append, item, item_map, Contains, Fits, Command, Reply, Done, Config, Script, Layout, World, new_world, all_empty, ends_of, replicate, length-replicate, IsPlaceAtStop, ListsWeaks, HeapStandsFor, AreAtRest, plan_of, layout_of, RoundRows, commands_left, answered_count, Collector, IsFresh, FitsRun, All, All-nil, All-cons, sum_by, sum_by-cons, zero, DidRound, GaveEach, DidAsk, MayRun, MayBeAsked, IsScriptSoFar, HasNoCommands, threads_of, script_of, all_replies, replies_to, most_total, seen}
+use Rattle.nmgc_cycle.proofs.Vocabulary.{ℕ, suc, ◌≡◌, ◌↔◌, ◌+◌, ◌*◌, ◌<◌, ◌≤◌, ◌++◌, ◌∙◌, List, [], ◌∷◌, map, length, slice_get, slice_get_within, slice_index, slice_index_or, Option, Some, refl, sym, ap, subst, arith, inl, inr, append_assoc, append-nil, length-append, map-append, item, item_map, Contains, Fits, Command, Reply, Done, Config, Script, Layout, World, new_world, all_empty, ends_of, replicate, length-replicate, IsPlaceAtStop, ListsWeaks, HeapStandsFor, AreAtRest, plan_of, layout_of, RoundRows, answered_count, Collector, IsFresh, CanStop, FitsRun, All, All-nil, All-cons, sum_by, sum_by-cons, zero, DidRound, DidAsk, MayRun, MayBeAsked, IsRunSoFar, HasNoCommands, threads_of, script_of, all_replies, replies_to, most_commands, cycle_most, joined, no_done, nothing_given, seen}
 use Rattle.nmgc_script.specs.Spelling.{IsOf, version_3}
-use Rattle.nmgc_cycle.proofs.{lengths.Measures.left_most, rounds.SoFar.both, rounds.SoFar.both_at, rounds.SoFar.both_count, rounds.SoFar.gave_both, rounds.SoFar.continues_on, rounds.SoFar.limits_on, rounds.SoFar.longer_on, rounds.SoFar.more_of, rounds.SoFar.script_on, rounds.SoFar.threads_count, rounds.SoFar.total_few, rounds.SoFar.within_limits, rounds.Continuing.no_done, rounds.Continuing.none_given}
+use Rattle.nmgc_cycle.proofs.{lengths.Few.stop_fits, lengths.Measures.commands_most, rounds.SoFar.AreWithin, rounds.SoFar.asked_for, rounds.SoFar.continues_on, rounds.SoFar.first_within, rounds.SoFar.joined_at, rounds.SoFar.joined_count, rounds.SoFar.limits_on, rounds.SoFar.longer_on, rounds.SoFar.more_of, rounds.SoFar.next_within, rounds.SoFar.script_on, rounds.SoFar.threads_count, rounds.SoFar.within_limits}
 
 -- a new collector is new for each script of this configuration with this number of programs
 pub fresh_for : (s : Script) (version : ℕ) (threads : List (List Command)) (c : Collector) → length threads ≡ length s.threads → IsFresh s c →
@@ -65,15 +65,6 @@ none_in_all (suc n) =
     let rest = none_in_all n in
     omega (arith, all, rest)
 
--- one of the programs gives no more commands than all together
-one_of_total : {P : Type 0} (most : P → ℕ) (programs : List P) (k : ℕ) (p : P) → slice_get programs k ≡ Some p → most p ≤ most_total most programs
-one_of_total most [] k p e = absurd cc
-one_of_total most (q ∷ programs) zero p e =
-    let same : q ≡ p = cc in
-    let here : most q ≡ most p = ap most same in
-    omega (arith, here)
-one_of_total most (q ∷ programs) (suc k) p e = let rest = one_of_total most programs k p e in omega (arith, rest)
-
 no_commands : (F : List Command → Type 0) (n : ℕ) → F [] → All F (replicate n [])
 no_commands F zero f = All-nil F
 no_commands F (suc n) f = All-cons F [] (replicate n []) f (no_commands F n f)
@@ -96,114 +87,75 @@ empty_limits words most valid config before may empty none =
     })
 
 module _ {P : Type 0} (next : P → Option Command) (steps : P → Reply → P → Type 0) (words most : P → ℕ) (valid : P → Type 0)
-    (waits : (p : P) (c : Command) → valid p → next p ≡ Some c → Fits (words p) c × (0 < most p)) (config : Config) (before : List P)
-    (may : MayRun words most valid config before) where
-  -- the programs may be asked, if the positions are the numbers of commands given
-  asked_for : (given : List (List Done)) (after : List P) → GaveEach next steps words most valid before after given → (positions : List ℕ) →
-      ((k : ℕ) (g : List Done) → slice_get given k ≡ Some g → slice_index positions k ≡ length g) →
-      MayBeAsked words most valid (script_of next config given after) positions after
-  asked_for given after gave positions at = record {
-    count = sym (threads_count next steps given after (gave.count ∙ sym gave.programs));
-    valid_are = λ k q e. let p = there k q e in (gave.each k p.0 q p.2.0 p.1 e p.2.1).valid_is;
-    fit = λ k q e. let p = there k q e in let same = (gave.each k p.0 q p.2.0 p.1 e p.2.1).words_are in let le = may.fit k p.0 p.1 in omega (arith, same, le);
-    few = λ k q e.
-        let p = there k q e in
-        let fewer = (gave.each k p.0 q p.2.0 p.1 e p.2.1).fewer in
-        let short = may.short in
-        let one = one_of_total most before k p.0 p.1 in
-        let here = at k p.2.0 p.2.1 in
-        omega (arith, fewer, short, one, here);
-  }
-    where
-      there : (k : ℕ) (q : P) → slice_get after k ≡ Some q → (p : P) × (slice_get before k ≡ Some p) × ((g : List Done) × (slice_get given k ≡ Some g))
-      there k q e =
-          let within = slice_get_within after k q e in
-          let same = gave.programs in
-          let count = gave.count in
-          let p = item before k (omega (arith, within, same)) in
-          let g = item given k (omega (arith, within, same, count)) in
-          (p.0, p.1, (g.0, g.1))
-
+    (waits : (p : P) (c : Command) → valid p → next p ≡ Some c → Fits (words p) c × (0 < most p)) (config : Config) where
   -- as the run begins
-  pub so_far_first : (empty : Script) (c : Collector) → HasNoCommands config (length before) empty → IsFresh empty c →
-      (script : Script) × IsScriptSoFar next steps words most valid config before c before script
-  so_far_first empty c none fresh =
-      let given : List (List Done) = map (λ (p : P). no_done) before in
-      let gave : GaveEach next steps words most valid before before given = none_given next steps words most valid before may.valid_are in
-      let same : length (threads_of next given before) ≡ length empty.threads =
-      threads_count next steps given before gave.count ∙ sym (ap (λ (s : Script). length s.threads) none ∙ length-replicate (length before) nothing) in
+  pub so_far_first : (programs : List P) → MayRun words most valid config programs → (empty : Script) (c : Collector) →
+      HasNoCommands config (length programs) empty → IsFresh empty c →
+      IsRunSoFar next words most valid config c (nothing_given programs) programs × CanStop (script_of next config (nothing_given programs) programs) c
+  so_far_first programs may empty c none fresh =
+      let given : List (List Done) = nothing_given programs in
+      let within : AreWithin next steps words most valid waits config given programs = first_within next steps words most valid waits config programs may in
+      let count = threads_count next steps given programs within.count in
+      let same : length (threads_of next given programs) ≡ length empty.threads =
+      count ∙ sym (ap (λ (s : Script). length s.threads) none ∙ length-replicate (length programs) nothing) in
+      let nil : (k : ℕ) (g : List Done) → slice_get given k ≡ Some g → no_done ≡ g = λ k g e.
+      let p = item programs k (let lt = slice_get_within given k g e in let size = within.count in omega (arith, lt, size)) in
+      let there : slice_get given k ≡ Some no_done = item_map (λ (x : P). no_done) programs k p.0 p.1 in
+      (let is : no_done ≡ g = cc (there, e) in is) in
       let here : (k : ℕ) (g : List Done) → slice_get given k ≡ Some g → slice_index c.positions.items k ≡ length g = λ k g e.
-      let within = slice_get_within given k g e in
-      let size = gave.count in
-      let p = item before k (omega (arith, within, size)) in
-      let there : slice_get given k ≡ Some no_done = item_map (λ (x : P). no_done) before k p.0 p.1 in
-      let nil : no_done ≡ g = cc (there, e) in
-      let count = threads_count next steps given before size in
-      fresh.kept.positions k (omega (arith, within, size, count, same)) ∙ ap (λ (r : List RoundRows). answered_count r k) fresh.new.nothing.0 ∙
-      ap (λ (l : List Done). length l) nil in (
-        script_of next config given before,
+      let lt = slice_get_within given k g e in
+      let size = within.count in
+      fresh.kept.positions k (omega (arith, lt, size, count, same)) ∙ ap (λ (r : List RoundRows). answered_count r k) fresh.new.nothing.0 ∙
+      ap (λ (l : List Done). length l) (nil k g e) in (
         record {
-          given = given;
-          gave = gave;
-          is = refl;
-          limits = within_limits next steps words most valid waits config before may given before gave;
-          can = inl (subst (λ (x : Config). IsFresh (record { version = 3; config = x; threads = threads_of next given before }) c)
-              (ap (λ (s : Script). s.config) none) (fresh_for empty 3 (threads_of next given before) c same fresh));
-          asked = asked_for given before gave c.positions.items here;
+          count = within.count;
+          limits = within_limits next steps words most valid waits config given programs within;
+          asked = asked_for next steps words most valid waits config given programs within c.positions.items here;
           positions = here;
-          replies = λ k g e.
-              let p = item before k (let within = slice_get_within given k g e in let size = gave.count in omega (arith, within, size)) in
-              let there : slice_get given k ≡ Some no_done = item_map (λ (x : P). no_done) before k p.0 p.1 in
-              let nil : no_done ≡ g = cc (there, e) in
-              ap (λ (r : List RoundRows). all_replies r k) fresh.new.nothing.0 ∙ ap (λ (l : List Done). replies_to l) nil;
+          replies = λ k g e. ap (λ (r : List RoundRows). all_replies r k) fresh.new.nothing.0 ∙ ap (λ (l : List Done). replies_to l) (nil k g e);
+          short = within.short;
         },
+        inl (subst (λ (x : Config). IsFresh (record { version = 3; config = x; threads = threads_of next given programs }) c)
+            (ap (λ (s : Script). s.config) none) (fresh_for empty 3 (threads_of next given programs) c same fresh)),
       )
 
   -- a round later
-  pub so_far_next : (c stopped new : Collector) (mid after : List P) (script : Script) →
-      IsScriptSoFar next steps words most valid config before c mid script → stopped.positions.items ≡ c.positions.items →
-      stopped.rows.rounds ≡ c.rows.rounds → DidAsk next steps words most valid script stopped new mid after →
-      (then : Script) × IsScriptSoFar next steps words most valid config before new after then
-  so_far_next c stopped new mid after script h positions rounds did =
-      let asked : DidAsk next steps words most valid (script_of next config h.given mid) stopped new mid after =
-      subst (λ (s : Script). DidAsk next steps words most valid s stopped new mid after) h.is did in
-      let at : (k : ℕ) (g : List Done) → slice_get h.given k ≡ Some g → slice_index stopped.positions.items k ≡ length g = λ k g e.
-      ap (λ (l : List ℕ). slice_index l k) positions ∙ h.positions k g e in
-      let given = both next steps h.given asked.done in
-      let gave = gave_both next steps words most valid waits config before may h.given asked.done mid after h.gave asked.gave in
+  pub so_far_next : (c stopped new : Collector) (mid after : List P) (given : List (List Done)) → IsRunSoFar next words most valid config c given mid →
+      stopped.positions.items ≡ c.positions.items → stopped.rows.rounds ≡ c.rows.rounds →
+      (asked : DidAsk next steps words most valid (script_of next config given mid) stopped new mid after) →
+      IsRunSoFar next words most valid config new (joined given asked.done) after × CanStop (script_of next config (joined given asked.done) after) new
+  so_far_next c stopped new mid after given h positions rounds asked =
+      let all = joined given asked.done in
+      let within : AreWithin next steps words most valid waits config all after =
+      next_within next steps words most valid waits config c given mid h after asked.done asked.gave in
       let more = more_of next steps mid after asked.done in
-      let longer = longer_on next steps words most valid waits config before may h.given mid h.gave stopped.positions.items at after asked.done asked.gave in
-      let on = continues_on next steps words most valid waits config before may h.given mid h.gave stopped.positions.items at after asked.done asked.gave in
-      let fits = limits_on next steps words most valid waits config before may h.given mid h.gave stopped.positions.items at after asked.done asked.gave in
-      let round : DidRound (script_of next config given after) stopped new =
-      subst (λ (s : Script). DidRound s stopped new) (script_on next steps words most valid waits config before may h.given mid after asked.done h.gave asked.gave)
+      let longer = longer_on next steps words most valid waits config c given mid h stopped.positions.items positions after asked.done asked.gave in
+      let on = continues_on next steps words most valid waits config c given mid h stopped.positions.items positions after asked.done asked.gave in
+      let fits = limits_on next steps words most valid waits config c given mid h stopped.positions.items positions after asked.done asked.gave in
+      let round : DidRound (script_of next config all after) stopped new =
+      subst (λ (s : Script). DidRound s stopped new) (script_on next steps words most valid waits config c given mid h after asked.done asked.gave)
       (asked.did more longer on fits).0 in
-      let parts : (k : ℕ) (gd : List Done) → slice_get given k ≡ Some gd → (g d : List Done) × (slice_get h.given k ≡ Some g) ×
+      let parts : (k : ℕ) (gd : List Done) → slice_get all k ≡ Some gd → (g d : List Done) × (slice_get given k ≡ Some g) ×
       (slice_get asked.done k ≡ Some d) × (g ++ d ≡ gd) = λ k gd e.
-      let within = slice_get_within given k gd e in
-      let first = h.gave.count in
+      let lt = slice_get_within all k gd e in
+      let first = h.count in
       let second = asked.gave.count in
-      let same = h.gave.programs in
-      let many = both_count next steps h.given asked.done (second ∙ same ∙ sym first) in
-      let g = item h.given k (omega (arith, within, many)) in
-      let d = item asked.done k (omega (arith, within, many, first, second, same)) in
-      let there = both_at next steps h.given asked.done k g.0 d.0 g.1 d.1 in
+      let many = joined_count given asked.done (second ∙ sym first) in
+      let g = item given k (omega (arith, lt, many)) in
+      let d = item asked.done k (omega (arith, lt, many, first, second)) in
+      let there = joined_at given asked.done k g.0 d.0 g.1 d.1 in
       (g.0, d.0, g.1, d.1, (let is : g.0 ++ d.0 ≡ gd = cc (there, e) in is)) in
-      let here : (k : ℕ) (gd : List Done) → slice_get given k ≡ Some gd → slice_index new.positions.items k ≡ length gd = λ k gd e.
+      let here : (k : ℕ) (gd : List Done) → slice_get all k ≡ Some gd → slice_index new.positions.items k ≡ length gd = λ k gd e.
       let x = parts k gd e in
-      let one = at k x.0 x.2 in
+      let one = ap (λ (l : List ℕ). slice_index l k) positions ∙ h.positions k x.0 x.2 in
       let two = asked.positions k x.1 x.3 in
       let long = length-append x.0 x.1 in
       let is = ap (λ (l : List Done). length l) x.4 in
       omega (arith, one, two, long, is) in (
-        script_of next config given after,
         record {
-          given = given;
-          gave = gave;
-          is = refl;
-          limits = within_limits next steps words most valid waits config before may given after gave;
-          can = inr round.0;
-          asked = asked_for given after gave new.positions.items here;
+          count = within.count;
+          limits = within_limits next steps words most valid waits config all after within;
+          asked = asked_for next steps words most valid waits config all after within new.positions.items here;
           positions = here;
           replies = λ k gd e.
               let x = parts k gd e in
@@ -213,14 +165,43 @@ module _ {P : Type 0} (next : P → Option Command) (steps : P → Reply → P �
               ∙ ap (λ (l : List Reply). l ++ slice_index_or asked.rows.replies k []) (h.replies k x.0 x.2)
               ∙ ap (λ (l : List Reply). map (λ (y : Done). y.1) x.0 ++ l) (asked.replies k x.1 x.3)
               ∙ sym (map-append (λ (y : Done). y.1) x.0 x.1) ∙ ap (λ (l : List Done). replies_to l) x.4;
+          short = within.short;
         },
+        inr round.0,
       )
 
-  -- no more stops than the programs' own bounds allow
-  pub stops_bound : (given : List (List Done)) (after : List P) → GaveEach next steps words most valid before after given →
-      commands_left (threads_of next given after) [] ≤ most_total most before
-  unfolding commands_left
-  stops_bound given after gave =
-      let left = left_most (answered_count []) 0 (threads_of next given after) in
-      let all = total_few next steps words most valid waits config before may given after gave in
-      omega (arith, left, all)
+module _ {P : Type 0} (next : P → Option Command) (words most : P → ℕ) (valid : P → Type 0) (config : Config) where
+  -- a stop leaves the commands given, and the replies
+  pub so_far_stopped : (c new : Collector) (given : List (List Done)) (programs : List P) → IsRunSoFar next words most valid config c given programs →
+      new.positions.items ≡ c.positions.items → new.rows.rounds ≡ c.rows.rounds → IsRunSoFar next words most valid config new given programs
+  so_far_stopped c new given programs h positions rounds = record {
+    count = h.count;
+    limits = h.limits;
+    asked = subst (λ (l : List ℕ). MayBeAsked words most valid (script_of next config given programs) l programs) (sym positions) h.asked;
+    positions = λ k d e. ap (λ (l : List ℕ). slice_index l k) positions ∙ h.positions k d e;
+    replies = λ k d e. ap (λ (r : List RoundRows). all_replies r k) rounds ∙ h.replies k d e;
+    short = h.short;
+  }
+
+  -- no run has more stops
+  pub stops_bound : (c : Collector) (given : List (List Done)) (programs : List P) → IsRunSoFar next words most valid config c given programs →
+      CanStop (script_of next config given programs) c →
+      length c.rows.stops + 1 ≤ most_commands + 2 * cycle_most (record {
+        segments = config.segments;
+        words = config.words;
+        nursery = config.nursery;
+        mutators = length programs;
+      }) + 1
+  stops_bound c given programs h can =
+      let script : Script = script_of next config given programs in
+      let fits = stop_fits script c h.limits can in
+      let within = fits.within in
+      let most = commands_most script h.limits [] in
+      let count : length script.threads ≡ length programs = sym h.asked.count in
+      let same = ap (λ (n : ℕ). cycle_most (record {
+        segments = config.segments;
+        words = config.words;
+        nursery = config.nursery;
+        mutators = n;
+      })) count in
+      omega (arith, within, most, same)
