@@ -12,9 +12,10 @@ use crate::known::Known;
 use crate::load::Load;
 use crate::sizes::{SHARDS, Sizes};
 use crate::turns::Turns;
-use nmgc_cycle::Collector;
+use nmgc_cycle::{Collector, RunFault};
+use nmgc_decider::figures::Sums;
 use nmgc_decider::{Decided, MOST_COMMANDS, heap_of};
-use nmgc_journal::Report;
+use nmgc_journal::End;
 use nmgc_limits::MAX_SEGMENT_WORDS;
 use nmgc_lists::NoMemory;
 use nmgc_round::Gate;
@@ -63,11 +64,29 @@ impl From<NoMemory> for CacheFault {
     }
 }
 
-/// A run that ended: the programs as they took their last replies, and the report.
+// The observer of sums never fails, so memory was refused.
+impl From<RunFault> for CacheFault {
+    fn from(_: RunFault) -> Self {
+        CacheFault::NoMemory
+    }
+}
+
+/// A run that ended: the programs as they took their last replies, the collector with its heap, and the sums over the events.
 #[derive(Drop)]
 pub struct Finished {
     pub programs: Vec<Decided<Cache>>,
-    pub report: Report,
+    pub collector: Collector,
+    pub end: End,
+    pub sums: Sums,
+    pub account: Account,
+}
+
+/// The values of a run at its end: the numbers of their weak pointers alive and dead, and of the queued finalisers.
+#[derive(Clone, Copy, Debug, PartialEq, Eq)]
+pub struct Account {
+    pub alive: u64,
+    pub dead: u64,
+    pub queued: u64,
 }
 
 /// The counts of all mutators together.
@@ -173,7 +192,7 @@ fn push(
     Ok(more)
 }
 
-/// Runs the operations of all mutators on one heap, and returns the report and the programs at their ends. Returns
+/// Runs the operations of all mutators on one heap, and returns the programs at their ends and the collector. Returns
 /// `TooLarge` if the number of mutators isn't from 1 to `MAKERS` too.
 pub fn run<R: Threads + Sync, G: Gate>(
     alloc: Global,
@@ -185,8 +204,36 @@ pub fn run<R: Threads + Sync, G: Gate>(
         return Err(CacheFault::TooLarge);
     };
     let mut programs = programs_of(alloc, task)?;
-    let report = Collector::run_programs(alloc, rt, &config, programs.as_mut_slice(), gate)?;
-    Ok(Finished { programs, report })
+    let mut sums = Sums::NONE;
+    let (collector, end) = Collector::run_programs_observed(
+        alloc,
+        rt,
+        &config,
+        programs.as_mut_slice(),
+        gate,
+        &mut sums,
+    )?;
+    let account = account_of(&collector, &sums)?;
+    Ok(Finished {
+        programs,
+        collector,
+        end,
+        sums,
+        account,
+    })
+}
+
+// Returns the account of a run that ended.
+fn account_of(collector: &Collector, sums: &Sums) -> Result<Account, NoMemory> {
+    let mut queued = 0u64;
+    for mutator in collector.mutators() {
+        queued = queued.saturating_add(mutator.queue.words().len() as u64);
+    }
+    Ok(Account {
+        alive: collector.count_weaks()? as u64,
+        dead: sums.dead,
+        queued,
+    })
 }
 
 /// Returns the counts of all programs together. Takes no memory.
@@ -208,38 +255,12 @@ pub fn totals_of(programs: &[Decided<Cache>]) -> Totals {
     all
 }
 
-/// The values of a run by its report: the numbers of their weak pointers alive and dead, and of the queued finalisers.
-#[derive(Clone, Copy, Debug, PartialEq, Eq)]
-pub struct Account {
-    pub alive: u64,
-    pub dead: u64,
-    pub queued: u64,
-}
-
-/// Returns the account of a report. Takes no memory.
-pub fn account_of(report: &Report) -> Account {
-    let mut dead = 0u64;
-    for cycle in report.cycles.items() {
-        dead = dead.saturating_add(cycle.dead.items().len() as u64);
-    }
-    let mut queued = 0u64;
-    for mutator in report.mutators.items() {
-        queued = queued.saturating_add(mutator.queue.items().len() as u64);
-    }
-    Account {
-        alive: report.weaks.items().len() as u64,
-        dead,
-        queued,
-    }
-}
-
 /// Returns whether the numbers agree: values made with weak pointers alive and dead, the dead with finalisers taken and queued.
 /// At most `entries` values are alive, and two for each mutator. The turns at each ring have the sum that each turn once has.
-pub fn is_accounted(report: &Report, totals: &Totals, entries: u32) -> bool {
-    let account = account_of(report);
-    let most = u64::from(entries).saturating_add(
-        (report.mutators.items().len() as u64).saturating_mul(2),
-    );
+pub fn is_accounted(finished: &Finished, totals: &Totals, entries: u32) -> bool {
+    let account = finished.account;
+    let mutators = finished.programs.len() as u64;
+    let most = u64::from(entries).saturating_add(mutators.saturating_mul(2));
     account.dead == totals.tally.evictions.saturating_add(account.queued)
         && totals.tally.made == account.dead.saturating_add(account.alive)
         && account.alive <= most

@@ -2,7 +2,7 @@
 //!
 //! Standard output has the lines that the words determine, and the number of wrong values. All that depends on the schedule and the clock goes to the log.
 use crate::run::{
-    CacheFault, Finished, Task, Totals, account_of, is_accounted, most_commands, run, totals_of,
+    Account, CacheFault, Finished, Task, Totals, is_accounted, most_commands, run, totals_of,
 };
 use crate::sizes::LARGE;
 use crate::text::lines;
@@ -10,7 +10,7 @@ use nmgc_arguments::{CommandLine, Text, arguments_of, write_output};
 use nmgc_decider::Progress;
 use nmgc_decider::figures::{Figures, print_figures};
 use nmgc_io::{Sink, read_number};
-use nmgc_journal::{End, Report};
+use nmgc_journal::End;
 use nmgc_limits::MAKERS;
 use std::alloc::Global;
 use std::thread::Threads;
@@ -135,9 +135,9 @@ fn output_of<R: Threads + Clock + Sync, P: Print + Sync>(
     let began = Figures::begin(rt);
     match run(alloc, rt, task, &gate) {
         Ok(finished) => {
-            print_figures(rt, log, NAME, began, &finished.report);
+            print_figures(rt, log, NAME, began, &finished.sums, &finished.collector);
             let totals = totals_of(finished.programs.as_slice());
-            print_totals(log, &finished.report, &totals);
+            print_totals(log, finished.account, &totals);
             output_of_finished(alloc, task, &finished, &totals)
         }
         Err(CacheFault::TooLarge) => (CacheStatus::TooMany, CacheStatus::TooMany.text()),
@@ -146,9 +146,8 @@ fn output_of<R: Threads + Clock + Sync, P: Print + Sync>(
 }
 
 // Prints the counts that depend on the schedule.
-fn print_totals<P: Print>(log: &P, report: &Report, totals: &Totals) {
+fn print_totals<P: Print>(log: &P, account: Account, totals: &Totals) {
     let tally = totals.tally;
-    let account = account_of(report);
     drop(println!(log;
         "{NAME}: {} weak pointers made, {} alive, {} dead, {} finalisers queued",
         tally.made, account.alive, account.dead, account.queued
@@ -167,14 +166,14 @@ fn print_totals<P: Print>(log: &P, report: &Report, totals: &Totals) {
 
 // Returns the status of a run that ended.
 fn status_of(task: Task, finished: &Finished, totals: &Totals) -> CacheStatus {
-    if finished.report.end != End::Done {
+    if finished.end != End::Done {
         return CacheStatus::HeapFull;
     }
     if totals.is_used_up {
         return CacheStatus::TooMany;
     }
     let is_right = totals.wrong == 0 && totals.is_done;
-    if is_right && is_accounted(&finished.report, totals, task.sizes.all_entries()) {
+    if is_right && is_accounted(finished, totals, task.sizes.all_entries()) {
         return CacheStatus::Done;
     }
     CacheStatus::Wrong

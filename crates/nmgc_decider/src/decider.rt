@@ -6,7 +6,8 @@ ghost use Rattle.std.specs.Prelude.{ℕ, ◌≡◌, ◌<◌, IfSome};
 ghost use Rattle.nmgc_world_spec.specs.World.{Fits};
 ghost use Rattle.nmgc_world_spec.specs.declared.command.Reply.{Reply as ReplySeen};
 
-use nmgc_commands::PackedCommand;
+use nmgc_commands::{Form, PackedCommand};
+use nmgc_cycle::Parks;
 use nmgc_mutator::Program;
 use nmgc_world_spec::Reply;
 
@@ -95,5 +96,15 @@ impl<D: Decider> Program for Decided<D> {
         let next = self.decider.decide(reply);
         self.left -= 1;
         self.waiting = if self.left > 0 { next } else { None };
+    }
+}
+
+/// A decider that gives `yield` has no work for now.
+impl<D: Decider> Parks for Decided<D> {
+    fn is_parked(&self) -> bool {
+        match &self.waiting {
+            Some(command) => matches!(command.form(), Form::Yield),
+            None => false,
+        }
     }
 }

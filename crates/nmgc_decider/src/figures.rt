@@ -1,7 +1,10 @@
-//! The figures of a run that ended, from its report and the clock.
+//! The figures of a run that ended, from sums over its events, its collector and the clock.
 //!
-//! They depend on the schedule and the machine, so they are printed beside a program's output and not in it.
-use nmgc_journal::Report;
+//! Figures depend on the schedule and the machine, so they are printed beside a program's output and not in it. The sums are
+//! taken as the events come, so no row is kept and a run of any length takes no more memory.
+ghost use Rattle.std.specs.Prelude.{OnOk};
+
+use nmgc_cycle::{Collector, Event, Observer, RunFault};
 use std::time::{Clock, Instant};
 
 /// The beginning of a run. It has no time if the clock failed.
@@ -10,13 +13,54 @@ pub struct Figures {
     began: Option<Instant>,
 }
 
-// The sums over a report.
-#[derive(Clone, Copy)]
-struct Sums {
-    commands: u64,
-    objects: u64,
-    freed: u64,
-    dead: u64,
+/// Sums over the events of a run so far: an observer that never fails. A sum stays at 2^64 - 1.
+#[derive(Clone, Copy, Debug, PartialEq, Eq)]
+pub struct Sums {
+    /// The commands that were answered.
+    pub commands: u64,
+    pub rounds: u64,
+    /// The cycles that ended.
+    pub cycles: u64,
+    /// The objects that these cycles freed.
+    pub freed: u64,
+    /// The weak pointers that died at their closings.
+    pub dead: u64,
+}
+
+impl Sums {
+    /// The sums before the first event.
+    pub const NONE: Sums = Sums {
+        commands: 0,
+        rounds: 0,
+        cycles: 0,
+        freed: 0,
+        dead: 0,
+    };
+}
+
+impl Observer for Sums {
+    ghost steps = { λ before event after. Unit {0} };
+
+    ghost fails = { λ before event after. ⊥ };
+
+    fn observe(&mut self, event: Event) -> Result<(), RunFault> {
+        match event {
+            Event::Stop { row: _, cycles } => {
+                for cycle in cycles.items() {
+                    self.cycles = self.cycles.saturating_add(1);
+                    self.freed = self.freed.saturating_add(cycle.freed.len() as u64);
+                    self.dead = self.dead.saturating_add(cycle.dead.items().len() as u64);
+                }
+            }
+            Event::Round(rows) => {
+                self.rounds = self.rounds.saturating_add(1);
+                for replies in rows.replies.items() {
+                    self.commands = self.commands.saturating_add(replies.len() as u64);
+                }
+            }
+        }
+        Ok(())
+    }
 }
 
 impl Figures {
@@ -34,27 +78,13 @@ impl Figures {
     }
 }
 
-// Returns the sums over a report.
-fn sums_of(report: &Report) -> Sums {
-    let mut sums = Sums {
-        commands: 0,
-        objects: 0,
-        freed: 0,
-        dead: 0,
-    };
-    for round in report.rounds.items() {
-        for replies in round.replies.items() {
-            sums.commands = sums.commands.saturating_add(replies.len() as u64);
-        }
+// Returns the number of objects that all mutators made.
+fn objects_of(collector: &Collector) -> u64 {
+    let mut objects = 0u64;
+    for mutator in collector.mutators() {
+        objects = objects.saturating_add(u64::from(mutator.serial));
     }
-    for mutator in report.mutators.items() {
-        sums.objects = sums.objects.saturating_add(u64::from(mutator.serial));
-    }
-    for cycle in report.cycles.items() {
-        sums.freed = sums.freed.saturating_add(cycle.freed.len() as u64);
-        sums.dead = sums.dead.saturating_add(cycle.dead.items().len() as u64);
-    }
-    sums
+    objects
 }
 
 /// Prints a line with the figures of a run on the log: commands, objects, rounds, cycles, the objects that cycles freed, the weak
@@ -64,14 +94,13 @@ pub fn print_figures<R: Clock, L: Print>(
     log: &L,
     name: &str,
     figures: Figures,
-    report: &Report,
+    sums: &Sums,
+    collector: &Collector,
 ) {
-    let sums = sums_of(report);
-    let rounds = report.rounds.items().len();
-    let cycles = report.cycles.items().len();
+    let objects = objects_of(collector);
     drop(print!(log;
-        "{name}: {} commands, {} objects, {rounds} rounds, {cycles} cycles, {} objects freed by cycles, {} weak pointers dead, ",
-        sums.commands, sums.objects, sums.freed, sums.dead
+        "{name}: {} commands, {objects} objects, {} rounds, {} cycles, {} objects freed by cycles, {} weak pointers dead, ",
+        sums.commands, sums.rounds, sums.cycles, sums.freed, sums.dead
     ));
     drop(match figures.milliseconds(rt) {
         Some(passed) => println!(log; "{passed} ms"),

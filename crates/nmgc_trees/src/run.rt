@@ -9,9 +9,10 @@ ghost use Rattle.nmgc_trees.specs.Ready.{AreTrees, IsTrees};
 
 use crate::plan::{Plan, nodes_of};
 use crate::trees::{DEPTHS, Trees};
-use nmgc_cycle::Collector;
+use nmgc_cycle::{Collector, RunFault};
+use nmgc_decider::figures::Sums;
 use nmgc_decider::{Decided, MOST_COMMANDS, heap_of};
-use nmgc_journal::Report;
+use nmgc_journal::End;
 use nmgc_limits::MAX_SEGMENT_WORDS;
 use nmgc_lists::NoMemory;
 use nmgc_round::Gate;
@@ -38,6 +39,13 @@ impl From<NoMemory> for TreesFault {
     }
 }
 
+// The observer of sums never fails, so memory was refused.
+impl From<RunFault> for TreesFault {
+    fn from(_: RunFault) -> Self {
+        TreesFault::NoMemory
+    }
+}
+
 /// The counts of all mutators together.
 #[derive(Clone, Copy, Debug, PartialEq, Eq)]
 pub struct Counts {
@@ -55,11 +63,13 @@ pub struct Counts {
     pub is_done: bool,
 }
 
-/// A run that ended: the programs as they took their last replies, and the report.
+/// A run that ended: the programs as they took their last replies, the collector with its heap, and the sums over the events.
 #[derive(Drop)]
 pub struct Finished {
     pub programs: Vec<Decided<Trees>>,
-    pub report: Report,
+    pub collector: Collector,
+    pub end: End,
+    pub sums: Sums,
 }
 
 /// Returns the number of commands that mutator 0 gives: no mutator gives more.
@@ -139,7 +149,7 @@ fn push(
     Ok(more)
 }
 
-/// Runs the trees of all mutators on one heap, and returns the report and the programs at their ends. Returns
+/// Runs the trees of all mutators on one heap, and returns the programs at their ends and the collector. Returns
 /// `TooLarge` if `threads` isn't from 1 to `MAKERS` too.
 pub fn run<R: Threads + Sync, G: Gate>(
     alloc: Global,
@@ -152,8 +162,21 @@ pub fn run<R: Threads + Sync, G: Gate>(
         return Err(TreesFault::TooLarge);
     };
     let mut programs = programs_of(alloc, depth, threads)?;
-    let report = Collector::run_programs(alloc, rt, &config, programs.as_mut_slice(), gate)?;
-    Ok(Finished { programs, report })
+    let mut sums = Sums::NONE;
+    let (collector, end) = Collector::run_programs_observed(
+        alloc,
+        rt,
+        &config,
+        programs.as_mut_slice(),
+        gate,
+        &mut sums,
+    )?;
+    Ok(Finished {
+        programs,
+        collector,
+        end,
+        sums,
+    })
 }
 
 /// Returns the counts of all programs together. Takes no memory.

@@ -125,7 +125,14 @@ fn output_of<R: Threads + Clock + Sync, P: Print + Sync>(
     let began = Figures::begin(rt);
     match run(alloc, rt, words.depth, words.threads, &gate) {
         Ok(finished) => {
-            print_figures(rt, log, "nmgc_trees", began, &finished.report);
+            print_figures(
+                rt,
+                log,
+                "nmgc_trees",
+                began,
+                &finished.sums,
+                &finished.collector,
+            );
             output_of_finished(alloc, words.depth, &finished)
         }
         Err(TreesFault::TooLarge) => (TreesStatus::TooLarge, TreesStatus::TooLarge.text()),
@@ -135,7 +142,7 @@ fn output_of<R: Threads + Clock + Sync, P: Print + Sync>(
 
 // Returns the status and the lines of a run that ended.
 fn output_of_finished(alloc: Global, depth: u8, finished: &Finished) -> (TreesStatus, Text) {
-    if finished.report.end != End::Done {
+    if finished.end != End::Done {
         return (TreesStatus::HeapFull, TreesStatus::HeapFull.text());
     }
     let counts = counted(finished.programs.as_slice());

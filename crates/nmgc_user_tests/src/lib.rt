@@ -6,6 +6,8 @@ mod of_cache;
 #[cfg(test)]
 mod of_decider;
 #[cfg(test)]
+mod of_parking;
+#[cfg(test)]
 mod of_trees;
 #[cfg(test)]
 mod words;

@@ -1,9 +1,9 @@
 //! The cache: small caches that evict at once, the plain map that has to see each wrong value, and the program's words.
 use crate::words::Words;
-use nmgc_cache::run::{CacheFault, Task, is_accounted, run, totals_of};
+use nmgc_cache::run::{CacheFault, Finished, Task, is_accounted, run, totals_of};
 use nmgc_cache::{Known, Load, Operation, Sizes, Stamp, Totals, Turns, program};
 use nmgc_io::MemorySink;
-use nmgc_journal::{End, Report};
+use nmgc_journal::End;
 use nmgc_round::OpenGate;
 use std::alloc::Global;
 use std::test::Fail;
@@ -16,12 +16,12 @@ const SMALL: Sizes = Sizes {
 };
 
 // Whether nothing is wrong, and each value is accounted for.
-fn is_right(report: &Report, totals: &Totals) -> bool {
-    report.end == End::Done
+fn is_right(finished: &Finished, totals: &Totals) -> bool {
+    finished.end == End::Done
         && totals.wrong == 0
         && totals.is_done
         && !totals.is_used_up
-        && is_accounted(report, totals, SMALL.all_entries())
+        && is_accounted(finished, totals, SMALL.all_entries())
 }
 
 // Whether a small cache evicts, answers rightly, and does all its operations.
@@ -45,7 +45,7 @@ fn is_small_right<R: Threads + Sync>(
         .saturating_add(tally.writes)
         .saturating_add(tally.scans);
     let is_used = tally.evictions > 0 && tally.hits > 0 && all == 3000;
-    Ok(is_used && is_right(&finished.report, &totals))
+    Ok(is_used && is_right(&finished, &totals))
 }
 
 #[test]
@@ -88,14 +88,14 @@ fn values_that_are_missing_are_seen(rt: HostRuntime) -> Result<(), Fail> {
     };
     let finished = run(rt.alloc(), &rt, task, &OpenGate)?;
     let totals = totals_of(finished.programs.as_slice());
-    assert!(rt; is_accounted(&finished.report, &totals, SMALL.all_entries()));
+    assert!(rt; is_accounted(&finished, &totals, SMALL.all_entries()));
     let mut more = totals;
     more.tally.made = more.tally.made.saturating_add(1);
-    assert!(rt; !is_accounted(&finished.report, &more, SMALL.all_entries()));
+    assert!(rt; !is_accounted(&finished, &more, SMALL.all_entries()));
     let mut more = totals;
     more.tally.evictions = more.tally.evictions.saturating_add(1);
-    assert!(rt; !is_accounted(&finished.report, &more, SMALL.all_entries()));
-    assert!(rt; !is_accounted(&finished.report, &totals, 0));
+    assert!(rt; !is_accounted(&finished, &more, SMALL.all_entries()));
+    assert!(rt; !is_accounted(&finished, &totals, 0));
     Ok(())
 }
 

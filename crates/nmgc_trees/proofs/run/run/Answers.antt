@@ -4,5 +4,5 @@ use Rattle.nmgc_trees.specs.Ready.{AreTrees}
 use Rattle.nmgc_decider.specs.laws.Ready.{may_run}
 use Rattle.nmgc_trees.proofs.run.run.Goals as goal
 
-pub run_programs-requires-after_bounds : goal.run_programs-requires-after_bounds
-run_programs-requires-after_bounds g c κs within = may_run _ _ c.args.threads most_commands _ _ c.in-Some.ensures (omega arith) (subst (AreTrees c.args.threads most_commands) (sym c.as_mut_slice.ensures.value) c.in_ok-programs.ensures)
+pub run_programs_observed-requires-after_bounds : goal.run_programs_observed-requires-after_bounds
+run_programs_observed-requires-after_bounds g c κs within = may_run _ _ c.args.threads most_commands _ _ c.in-Some.ensures (omega arith) (subst (AreTrees c.args.threads most_commands) (sym c.as_mut_slice.ensures.value) c.in_ok-programs.ensures)
