@@ -17,7 +17,7 @@ use std::alloc::Global;
 use std::test::Fail;
 use std::thread::Threads;
 
-// A list of cells. Its end is the number 0 or nil.
+// A list of cells, which ends with nil.
 const LIST: Register = R0;
 
 const FIRST: Register = R1;
