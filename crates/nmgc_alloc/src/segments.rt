@@ -398,6 +398,8 @@ impl Segments {
 
     /// Begins a cycle: takes the snapshot of every segment that isn't free, and sets `fresh` to 0. Filled segments are then
     /// to be swept. Requires that no segment is to be swept before.
+    #[cold]
+    #[inline(never)]
     pub(crate) fn prepare(&mut self)
         requires { HasNoneIn State.Sweeping self.old }
         ensures value { self.new ≡ record self.old { segments = map prepared self.old.segments; fresh = 0 } }
@@ -410,6 +412,8 @@ impl Segments {
     }
 
     /// Sets each mark byte that isn't 0 to the epoch, in all segments that are neither free nor to be swept.
+    #[cold]
+    #[inline(never)]
     pub(crate) fn carry(&mut self, epoch: u8)
         requires { IsEpoch epoch }
         ensures value { self.new ≡ record self.old { segments = map (carried_over epoch) self.old.segments } }

@@ -136,8 +136,16 @@ pub enum Form {
     Full,
 }
 
+// Drops a list of operands. It stands apart, so that the drop of a command without a list is a test of its form.
+#[cold]
+#[inline(never)]
+fn drop_list(operands: ManyOperands) {
+    drop(operands)
+}
+
 // Written by hand, so that each drop of a form calls this. A derived drop is written out, and proved, at each drop.
 impl Drop for Form {
+    #[inline]
     fn drop(self) {
         match self {
             Form::Num { dest: _, number: _ } => {}
@@ -152,7 +160,7 @@ impl Drop for Form {
                 dest: _,
                 tag: _,
                 fields,
-            } => drop(fields),
+            } => drop_list(fields),
             Form::Var { dest: _, value: _ } => {}
             Form::Arr {
                 dest: _,
@@ -160,9 +168,9 @@ impl Drop for Form {
                 value: _,
             } => {}
             Form::Rec { dest: _, fields } => drop(fields),
-            Form::LongRec { dest: _, fields } => drop(fields),
+            Form::LongRec { dest: _, fields } => drop_list(fields),
             Form::Thunk { dest: _, free } => drop(free),
-            Form::LongThunk { dest: _, free } => drop(free),
+            Form::LongThunk { dest: _, free } => drop_list(free),
             Form::Weak {
                 dest: _,
                 key: _,
@@ -242,6 +250,7 @@ const _: () = prove!(size_of::<PackedCommand>() == 16);
 
 // Written by hand, as the drop of `Form` is: each drop of a packed command calls this.
 impl Drop for PackedCommand {
+    #[inline]
     fn drop(self) {
         let PackedCommand { form } = self;
         drop(form);

@@ -1,9 +1,9 @@
 //! A command line: its name, the number of its tokens, each token, and the size of its object.
 //!
-//! `read_command` is the table of commands that are read. For each verb it gives the shape of the tokens after its name, and
-//! the fields that they spell. Easy to get wrong: a count that is too large for a segment is a fault of the size, and comes
-//! after all faults of tokens. But a count above 65,535 is a fault of its token.
-ghost use Rattle.std.specs.Prelude.{◌≡◌, ◌<◌, map};
+//! `read_command` and `read_other_command` are the table of commands that are read. For each verb they give the shape of the
+//! tokens after its name, and the fields that they spell. Easy to get wrong: a count that is too large for a segment is a
+//! fault of the size, and comes after all faults of tokens. But a count above 65,535 is a fault of its token.
+ghost use Rattle.std.specs.Prelude.{◌≡◌, ◌≢◌, ◌<◌, map};
 ghost use Rattle.nmgc_commands.specs.Packed.{command_of};
 ghost use Rattle.nmgc_script.specs.Reading.{Gives, none_at, operands_at, sized, command_at};
 
@@ -49,7 +49,8 @@ macro_rules! made {
     }};
 }
 
-// Returns the command that `verb` and the tokens after its name spell.
+// Returns the command that `verb` and the tokens after its name spell. A script has mostly commands of these four verbs.
+// Compiled code clears the values of all arms before it chooses one, so this function has few arms.
 fn read_command(
     alloc: Global,
     version: Version,
@@ -59,10 +60,29 @@ fn read_command(
     ensures { Gives result (operands_at version verb (map (λ w. w.now) tokens.now)) }
 {
     match verb {
+        Verb::Con => made!(version.dest_tag_values(alloc, tokens) => con_of(dest, tag, fields)),
+        Verb::Get => made!(version.dest_value_index(tokens) => Get { dest, object, index }),
+        Verb::Set => made!(version.value_index_value(tokens) => Set { object, index, value }),
+        Verb::Show => made!(version.value(tokens) => Show { value }),
+        _ => read_other_command(alloc, version, verb, tokens),
+    }
+}
+
+// Returns the command that `verb` and the tokens after its name spell. Requires a verb that `read_command` doesn't read.
+#[inline(never)]
+fn read_other_command(
+    alloc: Global,
+    version: Version,
+    verb: Verb,
+    tokens: &[&[u8]],
+) -> Result<PackedCommand, LineFault>
+    requires { (verb ≢ Verb.Con) × (verb ≢ Verb.Get) × (verb ≢ Verb.Set) × (verb ≢ Verb.Show) }
+    ensures { Gives result (operands_at version verb (map (λ w. w.now) tokens.now)) }
+{
+    match verb {
         Verb::Num => made!(version.dest_number(tokens) => Num { dest, number }),
         Verb::Nil => made!(version.dest(tokens) => Nil { dest }),
         Verb::Mov => made!(version.dest_value(tokens) => Mov { dest, value }),
-        Verb::Con => made!(version.dest_tag_values(alloc, tokens) => con_of(dest, tag, fields)),
         Verb::Var => made!(version.dest_value(tokens) => Var { dest, value }),
         Verb::Arr => made!(version.dest_count_value(tokens) => Arr { dest, count, value }),
         Verb::Rec => {
@@ -73,9 +93,7 @@ fn read_command(
         }
         Verb::Weak => made!(version.dest_values(tokens) => Weak { dest, key, value, finaliser }),
         Verb::Stack => made!(version.dest_count(tokens) => Stack { dest, size }),
-        Verb::Get => made!(version.dest_value_index(tokens) => Get { dest, object, index }),
         Verb::Tag => made!(version.dest_value(tokens) => Tag { dest, object }),
-        Verb::Set => made!(version.value_index_value(tokens) => Set { object, index, value }),
         Verb::Cas =>
             made!(version.value_index_values(tokens) => Cas { object, index, expected, value }),
         Verb::Update => made!(version.values(tokens) => Update { object, value }),
@@ -85,11 +103,11 @@ fn read_command(
         Verb::Deref => made!(version.dest_value(tokens) => Deref { dest, object }),
         Verb::Finalise => made!(version.dest_value(tokens) => Finalise { dest, object }),
         Verb::NextFin => made!(version.dest(tokens) => NextFin { dest }),
-        Verb::Show => made!(version.value(tokens) => Show { value }),
         Verb::Same => made!(version.values(tokens) => Same { left, right }),
         Verb::Yield => command_without_operands(Form::Yield, tokens),
         Verb::Collect => command_without_operands(Form::Collect, tokens),
         Verb::Full => command_without_operands(Form::Full, tokens),
+        Verb::Con | Verb::Get | Verb::Set | Verb::Show => unreachable!(),
     }
 }
 
