@@ -1,5 +1,6 @@
 pub mod AfterRound
 pub mod AskedParts
+pub mod AskedRound
 pub mod Asking
 pub mod Continuing
 pub mod FollowedLeft

@@ -6,6 +6,7 @@ pub mod Censuses
 pub mod Counted
 pub mod EnoughFree
 pub mod Forgetting
+pub mod Further
 pub mod Handing
 pub mod ListOver
 pub mod MarksOn

@@ -68,6 +68,24 @@ abbrev pub FailedRun : {J : Type 0} → (J → Event → J → Type 0) → (J �
 FailedRun steps fails p c stop q = (events : List Event) × (m : _) × (e : Event) × Observed steps p events m × fails m e q ×
     AreEventsOf c stop (events ++ e ∷ [])
 
+-- the events of a run from a stop on. Their rows follow the rows of the run until then, in order. A stop comes first, and stops
+-- and rounds alternate. `stop` says whether a stop comes next
+pub record AreEventsFrom (old new : Collector) (stop : Bool) (events : List Event) : Type 0 where
+  pub rounds : new.rows.rounds ≡ old.rows.rounds ++ rounds_in events
+  pub stops : new.rows.stops ≡ old.rows.stops ++ stops_in events
+  pub cycles : report_cycles new ≡ report_cycles old ++ cycles_in events
+  pub alternate : AlternateFrom true events
+  pub next : stop_follows true events ≡ stop
+
+-- an observer was given exactly the events from a stop on
+abbrev pub ObservedFrom : {J : Type 0} → (J → Event → J → Type 0) → Collector → J → Collector → Bool → J → Type 0
+ObservedFrom steps old p new stop q = (events : List Event) × Observed steps p events q × AreEventsFrom old new stop events
+
+-- an observer was given all events from a stop on but the last one, at which it failed
+abbrev pub FailedFrom : {J : Type 0} → (J → Event → J → Type 0) → (J → Event → J → Type 0) → Collector → J → Collector → Bool → J → Type 0
+FailedFrom steps fails old p new stop q = (events : List Event) × (m : _) × (e : Event) × Observed steps p events m × fails m e q ×
+    AreEventsFrom old new stop (events ++ e ∷ [])
+
 -- a collector in the run of a script; `stop` says whether a stop comes next
 abbrev pub IsInRun : Script → Collector → Bool → Type 0
 IsInRun script c true = CanStop script c
@@ -79,6 +97,12 @@ pub data ObservedPart {J : Type 0} (steps fails : J → Event → J → Type 0) 
   no_event : p ≡ q → ObservedPart steps fails script p q
   each_event : (c : Collector) (stop : Bool) → IsInRun script c stop → ObservedRun steps p c stop q → ObservedPart steps fails script p q
   but_last : (c : Collector) (stop : Bool) → IsInRun script c stop → FailedRun steps fails p c stop q → ObservedPart steps fails script p q
+
+-- the part of a script's run from a stop on that an observer was given before the run was given up. It is exactly the events
+-- from that stop on, or these but the last one, at which the observer failed
+pub data ObservedRest {J : Type 0} (steps fails : J → Event → J → Type 0) (script : Script) (old : Collector) (p q : J) : Type 0 where
+  each_further : (c : Collector) (stop : Bool) → IsInRun script c stop → ObservedFrom steps old p c stop q → ObservedRest steps fails script old p q
+  last_failed : (c : Collector) (stop : Bool) → IsInRun script c stop → FailedFrom steps fails old p c stop q → ObservedRest steps fails script old p q
 
 -- the part of a run of programs that an observer was given before the run was given up. It is a part of the run of the script
 -- that the programs had at some stop: the commands that each gave, and then its waiting command. They may have given more since

@@ -3,14 +3,14 @@
 -- At a stop the programs may be replaced by others. So no definition here has the programs with which the run began. The
 -- commands given so far are kept with their replies, whichever programs gave them (`given`). The script of the run so far has
 -- these commands and the waiting commands of today's programs.
-use Rattle.std.specs.Prelude.{ℕ, ◌≡◌, ◌+◌, ◌≤◌, List, [], ◌∷◌, ◌++◌, length, map, sum_by, Option, Some, slice_get, slice_index, true, Bool}
+use Rattle.std.specs.Prelude.{ℕ, ◌≡◌, ◌+◌, ◌≤◌, ◌⊎◌, List, [], ◌∷◌, ◌++◌, length, map, sum_by, Option, None, Some, slice_get, slice_index}
 use Rattle.nmgc_world_spec.specs.declared.command.{Command.Command, Command.TheVariants.Yield, Reply.Reply}
 use Rattle.nmgc_script.specs.declared.script.{Config.Config, Script.Script}
 use Rattle.nmgc_journal.specs.declared.report.{End.End, Report.Report}
 use Rattle.nmgc_run_spec.specs.Lawful.{IsRunOf}
 use Rattle.nmgc_run_laws.specs.Limits.{FitsRun, most_commands}
 use Rattle.nmgc_collector_laws.specs.Worked.{Done}
-use Rattle.nmgc_cycle.specs.{declared.collector.Collector.Collector, declared.observer.Event.Event, declared.program_run.ProgramRun.ProgramRun, declared.stop.StopEnd.StopEnd, Keeps.CanStop, Keeps.HasAnswered, Keeps.HasEnded, Observed.ObservedPart, Observed.ObservedRun, Programs.GaveEach, Programs.GaveSome, Programs.MayBeAsked, Programs.all_replies, Programs.most_total, Programs.replies_to, Programs.script_of}
+use Rattle.nmgc_cycle.specs.{declared.collector.Collector.Collector, declared.observer.Event.Event, declared.program_run.ProgramRun.ProgramRun, declared.stop.StopEnd.StopEnd, Keeps.CanStop, Keeps.DidRound, Keeps.HasAnswered, Keeps.HasEnded, Keeps.NothingReachableIsFreed, Keeps.StopsAfter, Observed.ObservedRest, Programs.GaveEach, Programs.GaveSome, Programs.MayBeAsked, Programs.all_replies, Programs.most_total, Programs.replies_to, Programs.script_of, Working.HaveTried}
 
 -- no commands of a program, and of each of these programs
 abbrev pub no_done : List Done
@@ -83,20 +83,53 @@ pub record MayReplace {P Q : Type 0} (next : P → Option Command) (next' : Q �
   pub fit : (k : ℕ) (q : Q) → slice_get others k ≡ Some q → words q ≤ run.config.words
   pub short : sum_by length run.given.value + most_total most others ≤ most_commands
 
--- if an observer was given exactly the events of the run so far, it still was later; `stop` says whether a stop comes next
-abbrev pub ObservedOn : {J : Type 0} → (J → Event → J → Type 0) → ProgramRun → J → ProgramRun → Bool → J → Type 0
-ObservedOn steps old p new stop q = (first : _) → ObservedRun steps first old.collector true p → ObservedRun steps first new.collector stop q
+-- a run of programs did a stop. The run of its script so far goes on by this stop, and nothing that can be reached was freed
+pub record HasDoneStop {P : Type 0} (next : P → Option Command) (programs : List P) (old new : ProgramRun) : Type 0 where
+  pub rest : new ≡ record old { collector = new.collector }
+  pub after : StopsAfter (script_so_far next old programs) old.collector new.collector
+  pub freed : NothingReachableIsFreed (script_so_far next old programs) new.collector
 
--- the part of a run of programs that an observer was given before the run was given up, if it was given exactly the events so
--- far. It is a part of the run of the script that the programs had at some stop since. They may have given more since then
+-- a run of programs did a round. They gave commands, and the run of the script with these goes on by this round, from the heap
+-- of the stop before. Each mutator passed the gate before each command that it tried
+pub record HasDoneRound {P : Type 0} (next : P → Option Command) (steps : P → Reply → P → Type 0) (words most : P → ℕ) (valid : P → Type 0)
+    (old new : ProgramRun) (before after : List P) : Type 0 where
+  pub config : new.config ≡ old.config
+  pub more : GaveMore next steps words most valid before after old.given.value new.given.value
+  pub did : DidRound (script_so_far next new after) old.collector new.collector
+  pub tried : HaveTried (script_so_far next new after) old.collector new.collector
+
+-- a run of programs was continued from a stop to a later one, or to the same, by stops and rounds in turn. Each of them begins with
+-- the heap that the one before left
+pub data IsContinued {P : Type 0} (next : P → Option Command) (steps : P → Reply → P → Type 0) (words most : P → ℕ) (valid : P → Type 0)
+    (old : ProgramRun) (before : List P) : ProgramRun → List P → Type 0 where
+  stays : IsContinued next steps words most valid old before old before
+  further : (mid stopped new : ProgramRun) (between after : List P) → IsContinued next steps words most valid old before mid between →
+      HasDoneStop next between mid stopped → HasDoneRound next steps words most valid stopped new between after →
+      IsContinued next steps words most valid old before new after
+
+-- a run of programs was continued to a later stop, or to its end by one stop more
+abbrev pub IsContinuedTo : {P : Type 0} → (P → Option Command) → (P → Reply → P → Type 0) → (P → ℕ) → (P → ℕ) → (P → Type 0) → ProgramRun → List P → ProgramRun → List P → Option End → Type 0
+IsContinuedTo next steps words most valid old before new after None = IsContinued next steps words most valid old before new after
+IsContinuedTo next steps words most valid old before new after (Some end) = (last : ProgramRun) ×
+    IsContinued next steps words most valid old before last after × HasDoneStop next after last new
+
+-- programs in a round that was given up: they are as before, or took the replies of a lawful round of the run
+abbrev pub IsRoundOrNone : {P : Type 0} → (P → Option Command) → (P → Reply → P → Type 0) → (P → ℕ) → (P → ℕ) → (P → Type 0) → ProgramRun → List P → List P → Type 0
+IsRoundOrNone next steps words most valid old before after = (after ≡ before) ⊎ ((new : ProgramRun) × HasDoneRound next steps words most valid old new before after)
+
+-- the part of a run of programs from a stop on that an observer was given before the run was given up. It is a part of the run
+-- of the script that the programs had at some stop since. After it they may have taken the replies of one lawful round more
 pub record ObservedSince {J P : Type 0} (steps fails : J → Event → J → Type 0) (next : P → Option Command) (replies : P → Reply → P → Type 0)
     (words most : P → ℕ) (valid : P → Type 0) (old : ProgramRun) (before after : List P) (p q : J) : Type 0 where
   pub given : List (List Done)
   pub between : List P
   pub more : GaveMore next replies words most valid before between old.given.value given
   pub limits : FitsRun (script_of next old.config given between)
-  pub observed : (first : J) → ObservedRun steps first old.collector true p → ObservedPart steps fails (script_of next old.config given between) first q
+  pub observed : ObservedRest steps fails (script_of next old.config given between) old.collector p q
   pub since : GaveSome next replies words most valid between after
+  pub last : ProgramRun
+  pub last_given : last.given.value ≡ given
+  pub replied : IsRoundOrNone next replies words most valid last between after
 
 -- the promise for a run whose programs were replaced. Its report is lawful for the script of all commands given and of each last
 -- program's next command. It has the replies to the commands given

@@ -174,10 +174,19 @@ fn empty_words(alloc: Global, layout: Layout) -> Result<Vec<u64>, NoMemory>
     Ok(words)
 }
 
-// Returns the greatest number of commands that the first slice of program `number` may have. No clause constrains the answer.
-fn most_commands(script: &Script, number: u8) -> u32 {
-    match script.threads.items().get(usize::from(number)) {
-        Some(program) => program.items().len().min(script.config.slice as usize) as u32,
+// Returns the number of commands in the first slice of each program of a script, at most. No clause constrains the answer.
+fn first_slices(alloc: Global, script: &Script) -> Result<Vec<u32>, NoMemory> {
+    let mut slices = Vec::with_capacity(alloc, script.threads.items().len())?;
+    for program in script.threads.items() {
+        slices.push(program.items().len().min(script.config.slice as usize) as u32)?;
+    }
+    Ok(slices)
+}
+
+// Returns the number in a list, and 0 past its end.
+fn slice_at(slices: &[u32], number: u8) -> u32 {
+    match slices.get(usize::from(number)) {
+        Some(commands) => *commands,
         None => 0,
     }
 }
@@ -194,7 +203,7 @@ fn most_entries(commands: u32) -> u32 {
 fn new_mutators(
     alloc: Global,
     layout: Layout,
-    script: &Script,
+    slices: &[u32],
 ) -> Result<(Vec<Mutator>, Inbox), NoMemory>
     requires { IsLayout layout }
     ensures count { IfOk result (λ made. (length made.0.items ≡ layout.mutators) × (length made.1 ≡ layout.mutators)) }
@@ -206,7 +215,7 @@ fn new_mutators(
     let place = ListMemory::new(alloc)?;
     let mut receivers = Vec::with_capacity(alloc, layout.mutators as usize)?;
     for number in 0..layout.mutators {
-        let commands = most_commands(script, number);
+        let commands = slice_at(slices, number);
         let (sender, mut receiver) = link(alloc)?;
         receiver.reserve(most_entries(commands))?;
         let mut mutator = Mutator::new(alloc, number, layout, sender)?;
@@ -249,10 +258,27 @@ impl Collector {
         ensures turns { IfOk result (λ collector. turns_of collector ≡ 0) }
         ensures upper_turns { IfOk result (λ collector. upper_turns_of collector ≡ 0) }
     {
+        let slices = first_slices(alloc, script)?;
+        Collector::with_slices(alloc, script, slices.as_slice())
+    }
+
+    /// Makes the collector of a script's run as `new` does, with room for a first slice of `slices[k]` commands of mutator k, and
+    /// of none past the end. No clause depends on the room. It is taken before the list of words, as the note above says.
+    pub(crate) fn with_slices(
+        alloc: Global,
+        script: &Script,
+        slices: &[u32],
+    ) -> Result<Collector, NoMemory>
+        requires { FitsRun script.now }
+        ensures fresh { IfOk result (λ collector. IsFresh script.now collector) }
+        ensures mutator_turns { IfOk result (λ collector. (k : ℕ) (m : MutatorShown) → slice_get collector.mutators.items k ≡ Some m → m.turns ≡ 0) }
+        ensures turns { IfOk result (λ collector. turns_of collector ≡ 0) }
+        ensures upper_turns { IfOk result (λ collector. upper_turns_of collector ≡ 0) }
+    {
         empty_heap_opens();
         let layout = layout_of(script);
         let promotion = Promotion::reserve(alloc, layout)?;
-        let (mutators, inbox) = new_mutators(alloc, layout, script)?;
+        let (mutators, inbox) = new_mutators(alloc, layout, slices)?;
         let words = new_words(alloc, layout)?;
         let segments = Segments::new(alloc, layout)?;
         let names = NameTable::new(alloc, layout)?;

@@ -45,5 +45,5 @@ pub use collector::Collector;
 pub use name_notes::put_rows_in_order;
 pub use observer::{Event, Forgetful, KeptRows, Observer, RunFault};
 pub use program_laws::lists_run_as_scripts;
-pub use program_run::{Parks, ProgramRun};
+pub use program_run::{Bounded, MOST_COMMANDS, Parks, ProgramRun};
 pub use stop::{StopEnd, StopRows};

@@ -17,7 +17,7 @@
 //! Easy to get wrong: a request for a cycle or a full one lasts until a stop grants it, so a round may only add requests. And
 //! the opening is chosen for the script before the round, but the round belongs to the longer script's run too. The opening
 //! depends only on the world, the places and the marking machine, which are the same for both scripts.
-ghost use Rattle.std.specs.Prelude.{ℕ, ◌≡◌, ◌||◌, ◌<◌, ◌≤◌, ◌+◌, ◌^◌, [], ◌∷◌, ◌++◌, true, None, Some, IfOk, OnOk, length, map, min, slice_get, slice_index, slice_index_or};
+ghost use Rattle.std.specs.Prelude.{ℕ, ◌≡◌, ◌⊎◌, ◌||◌, ◌<◌, ◌≤◌, ◌+◌, ◌^◌, [], ◌∷◌, ◌++◌, true, None, Some, IfOk, OnErr, OnOk, length, map, min, slice_get, slice_index, slice_index_or};
 ghost use Rattle.std.specs.List.{list_any};
 ghost use Rattle.nmgc_alloc.specs.Segments.{IsSegments};
 ghost use Rattle.nmgc_round.specs.Gate.{passed};
@@ -27,6 +27,7 @@ ghost use Rattle.nmgc_updrem.specs.{Lines.HasMetSo, Rings.AtLine, Rings.HavePoll
 ghost use Rattle.nmgc_run_laws.specs.Limits.{FitsRun};
 ghost use Rattle.nmgc_cycle.specs.{Lined.IsLined, Lined.HasMetSender, Lined.HaveLines, Lined.HaveMet, Lined.RememberInOrder, Keeps.HasStopped, Keeps.DidRound, Cycles.CanHelp, Cycles.HasHelped, Cycles.worked_on, Cycles.upper_worked_on, Shown.is_marking_in, Shown.turns_of, Shown.upper_turns_of};
 ghost use Rattle.nmgc_cycle.specs.Working.{HaveRoom, HasLists, AreReserved, OpensAt, HaveTried, asks_of, asks_full_of, done_by, cleared, replies_of};
+ghost use Rattle.nmgc_cycle.specs.declared.collector.Collector.{Collector as CollectorSeen};
 ghost use Rattle.nmgc_cycle.specs.{Asking.CanAskAll, Programs.AreListed, Programs.CanContinue, Programs.DidAsk, Programs.DidAskSlices, Programs.GaveSome, Programs.HasAskInbox, Programs.HaveAskRoom, Programs.HaveWorkedAsAsked, Programs.MayBeAsked, Programs.most_at};
 
 use crate::Collector;
@@ -180,8 +181,9 @@ impl Collector {
     /// round of that script's run (clause `worked`, `DidAsk`). So a program may decide on its next command by the last reply.
     ///
     /// The programs stay the caller's. Even after `NoMemory` each is in the state in which it took its last reply, and gave
-    /// at most its own bound of commands (clause `gave`). No other clause applies then. Requires that the last stop answered
-    /// `GoOn` and no round followed.
+    /// at most its own bound of commands (clause `gave`). Then no program gave a command, or the round was done and only its row
+    /// is missing (clause `replied`). No other clause applies then. Requires that the last stop answered `GoOn` and no round
+    /// followed.
     pub(crate) fn round_programs<R: Threads + Sync, P: Program, G: Gate>(
         &mut self,
         rt: &R,
@@ -197,6 +199,8 @@ impl Collector {
         requires continues { CanContinue P.next P.steps P.words P.most P.valid script.now.value self.old.positions.items programs.old }
         ensures worked { OnOk result (DidAsk P.next P.steps P.words P.most P.valid script.now.value self.old self.new programs.old programs.new) }
         ensures gave { GaveSome P.next P.steps P.words P.most P.valid programs.old programs.new }
+        ensures replied { OnErr result ((programs.new ≡ programs.old) ⊎
+            ((new : CollectorSeen) × DidAsk P.next P.steps P.words P.most P.valid script.now.value self.old new programs.old programs.new)) }
         ensures reported { IfOk result (λ rows. self.new.rows.rounds ≡ self.old.rows.rounds ++ rows ∷ []) }
         ensures stops { OnOk result (self.new.rows.stops ≡ self.old.rows.stops) }
         ensures cycles { OnOk result (self.new.rows.cycles ≡ self.old.rows.cycles) }
@@ -236,6 +240,8 @@ impl Collector {
         requires continues { CanContinue P.next P.steps P.words P.most P.valid script.now.value self.old.positions.items programs.old }
         ensures worked { OnOk result (DidAsk P.next P.steps P.words P.most P.valid script.now.value self.old self.new programs.old programs.new) }
         ensures gave { GaveSome P.next P.steps P.words P.most P.valid programs.old programs.new }
+        ensures replied { OnErr result ((programs.new ≡ programs.old) ⊎
+            ((new : CollectorSeen) × DidAsk P.next P.steps P.words P.most P.valid script.now.value self.old new programs.old programs.new)) }
         ensures reported { IfOk result (λ rows. self.new.rows.rounds ≡ self.old.rows.rounds ++ rows ∷ []) }
         ensures stops { OnOk result (self.new.rows.stops ≡ self.old.rows.stops) }
         ensures cycles { OnOk result (self.new.rows.cycles ≡ self.old.rows.cycles) }

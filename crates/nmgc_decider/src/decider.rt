@@ -7,12 +7,9 @@ ghost use Rattle.nmgc_world_spec.specs.World.{Fits};
 ghost use Rattle.nmgc_world_spec.specs.declared.command.Reply.{Reply as ReplySeen};
 
 use nmgc_commands::{Form, PackedCommand};
-use nmgc_cycle::Parks;
+use nmgc_cycle::{Bounded, Parks};
 use nmgc_mutator::Program;
 use nmgc_world_spec::Reply;
-
-/// The most commands of all programs of a run together: 2^31.
-pub const MOST_COMMANDS: u32 = 2_147_483_648;
 
 /// What decides on the next command of a program by the reply to the last one.
 pub trait Decider: Send {
@@ -99,7 +96,15 @@ impl<D: Decider> Program for Decided<D> {
     }
 }
 
-/// A decider that gives `yield` has no work for now.
+/// A decider knows its bound.
+impl<D: Decider> Bounded for Decided<D> {
+    fn bound(&self) -> u32 {
+        self.left
+    }
+}
+
+/// A program whose next command is `yield` is parked. It may wait for another one, and find its work in the heap already. A
+/// program that has ended is never parked.
 impl<D: Decider> Parks for Decided<D> {
     fn is_parked(&self) -> bool {
         match &self.waiting {

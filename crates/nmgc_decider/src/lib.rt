@@ -22,9 +22,10 @@ pub mod objects;
 pub mod progress;
 pub mod random;
 
-pub use decider::{Decided, Decider, MOST_COMMANDS};
+pub use decider::{Decided, Decider};
 pub use frames::Frame;
 pub use heap::heap_of;
+pub use nmgc_cycle::MOST_COMMANDS;
 pub use objects::{Obj, Shape};
 pub use progress::Progress;
 pub use random::Random;

@@ -1,5 +1,6 @@
 -- The part of a run of programs that an observer was given before the run was given up.
-use Rattle.nmgc_cycle.proofs.{Vocabulary.ℕ, Vocabulary.◌≡◌, Vocabulary.◌<◌, Vocabulary.◌∙◌, Vocabulary.List, Vocabulary.length, Vocabulary.Option, Vocabulary.Some, Vocabulary.refl, Vocabulary.sym, Vocabulary.ap, Vocabulary.subst, Vocabulary.slice_get, Vocabulary.Command, Vocabulary.Reply, Vocabulary.Done, Vocabulary.Fits, Vocabulary.Config, Vocabulary.Script, Vocabulary.Event, Vocabulary.End, Vocabulary.HasEnded, Vocabulary.HasRunPrograms, Vocabulary.RunHasEnded, Vocabulary.FitsRun, Vocabulary.GaveMore, Vocabulary.MayRun, Vocabulary.ObservedOn, Vocabulary.ObservedPart, Vocabulary.ObservedPrograms, Vocabulary.ObservedRun, Vocabulary.ObservedSince, Vocabulary.ProgramRun, Vocabulary.joined, Vocabulary.no_event, Vocabulary.nothing_given, Vocabulary.script_of, Vocabulary.true, rounds.Continuing.gave_none, rounds.Continuing.none_given, rounds.SoFar.first_within, rounds.SoFar.joined_first, rounds.SoFar.joined_nothing, rounds.SoFar.more_both, rounds.SoFar.within_limits}
+use Rattle.nmgc_cycle.proofs.{Vocabulary.ℕ, Vocabulary.◌≡◌, Vocabulary.◌<◌, Vocabulary.◌∙◌, Vocabulary.List, Vocabulary.length, Vocabulary.Option, Vocabulary.Some, Vocabulary.refl, Vocabulary.sym, Vocabulary.ap, Vocabulary.subst, Vocabulary.slice_get, Vocabulary.Command, Vocabulary.Reply, Vocabulary.Done, Vocabulary.Fits, Vocabulary.Config, Vocabulary.Script, Vocabulary.Event, Vocabulary.End, Vocabulary.HasEnded, Vocabulary.HasRunPrograms, Vocabulary.RunHasEnded, Vocabulary.FitsRun, Vocabulary.GaveMore, Vocabulary.MayRun, Vocabulary.ObservedFrom, Vocabulary.ObservedPrograms, Vocabulary.ObservedRest, Vocabulary.ObservedRun, Vocabulary.ObservedPart, Vocabulary.ObservedSince, Vocabulary.ProgramRun, Vocabulary.joined, Vocabulary.no_event, Vocabulary.nothing_given, Vocabulary.script_of, Vocabulary.true, rounds.Continuing.gave_none, rounds.Continuing.none_given, rounds.SoFar.first_within, rounds.SoFar.joined_first, rounds.SoFar.joined_nothing, rounds.SoFar.more_both, rounds.SoFar.within_limits, stops.Further.rest_later}
+use Rattle.nmgc_cycle.specs.laws.Events.{the_rest_completes_a_part}
 
 module _ {P : Type 0} (next : P → Option Command) (replies : P → Reply → P → Type 0) (words most : P → ℕ) (valid : P → Type 0) where
   -- no command was given since
@@ -31,15 +32,19 @@ module _ {P : Type 0} (next : P → Option Command) (replies : P → Reply → P
 module _ {J P : Type 0} (steps fails : J → Event → J → Type 0) (next : P → Option Command) (replies : P → Reply → P → Type 0) (words most : P → ℕ) (valid : P → Type 0) where
   -- the run was given up at a later part
   pub since_later : (old mid : ProgramRun) (before between after : List P) (p m q : J) → length old.given.value ≡ length before → mid.config ≡ old.config →
-      GaveMore next replies words most valid before between old.given.value mid.given.value → ObservedOn steps old p mid true m →
+      GaveMore next replies words most valid before between old.given.value mid.given.value → ObservedFrom steps old.collector p mid.collector true m →
       ObservedSince steps fails next replies words most valid mid between after m q → ObservedSince steps fails next replies words most valid old before after p q
   since_later old mid before between after p m q counted config more on h = record {
     given = h.given;
     between = h.between;
     more = more_both next replies words most valid before between h.between old.given.value mid.given.value h.given counted more h.more;
     limits = subst (λ (x : Config). FitsRun (script_of next x h.given h.between)) config h.limits;
-    observed = λ first f. subst (λ (x : Config). ObservedPart steps fails (script_of next x h.given h.between) first q) config (h.observed first (on first f));
+    observed = rest_later steps fails (script_of next old.config h.given h.between) p m q old.collector mid.collector on
+        (subst (λ (x : Config). ObservedRest steps fails (script_of next x h.given h.between) mid.collector m q) config h.observed);
     since = h.since;
+    last = h.last;
+    last_given = h.last_given;
+    replied = h.replied;
   }
 
   -- a part of the whole run
@@ -56,7 +61,8 @@ module _ {J P : Type 0} (steps fails : J → Event → J → Type 0) (next : P �
         limits = subst (λ (l : List (List Done)). FitsRun (script_of next config l h.between)) is
             (subst (λ (x : Config). FitsRun (script_of next x h.given h.between)) config_is h.limits);
         observed = subst (λ (l : List (List Done)). ObservedPart steps fails (script_of next config l h.between) p q) is
-            (subst (λ (x : Config). ObservedPart steps fails (script_of next x h.given h.between) p q) config_is (h.observed p observed));
+            (subst (λ (x : Config). ObservedPart steps fails (script_of next x h.given h.between) p q) config_is
+            (the_rest_completes_a_part steps fails (script_of next run.config h.given h.between) p p q run.collector observed h.observed));
         since = h.since;
       }
 

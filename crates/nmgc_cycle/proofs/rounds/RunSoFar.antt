@@ -1,5 +1,5 @@
 -- A run of programs, from stop to stop: the script so far, and the bound of its stops.
-use Rattle.nmgc_cycle.proofs.Vocabulary.{ℕ, suc, ◌≡◌, ◌↔◌, ◌+◌, ◌*◌, ◌<◌, ◌≤◌, ◌++◌, ◌∙◌, List, [], ◌∷◌, map, length, slice_get, slice_get_within, slice_index, slice_index_or, Option, Some, refl, sym, ap, subst, arith, inl, inr, append_assoc, append-nil, length-append, map-append, item, item_map, Contains, Fits, Command, Reply, Done, Config, Script, Layout, World, new_world, all_empty, ends_of, replicate, length-replicate, IsPlaceAtStop, ListsWeaks, HeapStandsFor, AreAtRest, plan_of, layout_of, RoundRows, answered_count, Collector, IsFresh, CanStop, FitsRun, All, All-nil, All-cons, sum_by, sum_by-cons, zero, DidRound, DidAsk, MayRun, MayBeAsked, IsRunSoFar, HasNoCommands, threads_of, script_of, all_replies, replies_to, most_commands, cycle_most, joined, no_done, nothing_given, seen}
+use Rattle.nmgc_cycle.proofs.Vocabulary.{ℕ, suc, ◌≡◌, ◌↔◌, ◌+◌, ◌*◌, ◌<◌, ◌≤◌, ◌++◌, ◌∙◌, List, [], ◌∷◌, map, length, slice_get, slice_get_within, slice_index, slice_index_or, Option, Some, refl, sym, ap, subst, arith, inl, append_assoc, append-nil, length-append, map-append, item, item_map, Contains, Fits, Command, Reply, Done, Config, Script, Layout, World, new_world, all_empty, ends_of, replicate, length-replicate, IsPlaceAtStop, ListsWeaks, HeapStandsFor, AreAtRest, plan_of, layout_of, RoundRows, answered_count, Collector, IsFresh, CanStop, FitsRun, All, All-nil, All-cons, sum_by, sum_by-cons, zero, DidRound, DidAsk, HaveTried, MayRun, MayBeAsked, IsRunSoFar, HasDoneRound, HasNoCommands, MayGoOnWith, ProgramRun, script_so_far, threads_of, script_of, all_replies, replies_to, most_commands, cycle_most, joined, no_done, nothing_given, seen}
 use Rattle.nmgc_script.specs.Spelling.{IsOf, version_3}
 use Rattle.nmgc_cycle.proofs.{lengths.Few.stop_fits, lengths.Measures.commands_most, rounds.SoFar.AreWithin, rounds.SoFar.asked_for, rounds.SoFar.continues_on, rounds.SoFar.first_within, rounds.SoFar.joined_at, rounds.SoFar.joined_count, rounds.SoFar.limits_on, rounds.SoFar.longer_on, rounds.SoFar.more_of, rounds.SoFar.next_within, rounds.SoFar.script_on, rounds.SoFar.threads_count, rounds.SoFar.within_limits}
 
@@ -123,7 +123,8 @@ module _ {P : Type 0} (next : P → Option Command) (steps : P → Reply → P �
   pub so_far_next : (c stopped new : Collector) (mid after : List P) (given : List (List Done)) → IsRunSoFar next words most valid config c given mid →
       stopped.positions.items ≡ c.positions.items → stopped.rows.rounds ≡ c.rows.rounds →
       (asked : DidAsk next steps words most valid (script_of next config given mid) stopped new mid after) →
-      IsRunSoFar next words most valid config new (joined given asked.done) after × CanStop (script_of next config (joined given asked.done) after) new
+      IsRunSoFar next words most valid config new (joined given asked.done) after × DidRound (script_of next config (joined given asked.done) after) stopped new ×
+      HaveTried (script_of next config (joined given asked.done) after) stopped new
   so_far_next c stopped new mid after given h positions rounds asked =
       let all = joined given asked.done in
       let within : AreWithin next steps words most valid waits config all after =
@@ -132,9 +133,9 @@ module _ {P : Type 0} (next : P → Option Command) (steps : P → Reply → P �
       let longer = longer_on next steps words most valid waits config c given mid h stopped.positions.items positions after asked.done asked.gave in
       let on = continues_on next steps words most valid waits config c given mid h stopped.positions.items positions after asked.done asked.gave in
       let fits = limits_on next steps words most valid waits config c given mid h stopped.positions.items positions after asked.done asked.gave in
-      let round : DidRound (script_of next config all after) stopped new =
-      subst (λ (s : Script). DidRound s stopped new) (script_on next steps words most valid waits config c given mid h after asked.done asked.gave)
-      (asked.did more longer on fits).0 in
+      let round : DidRound (script_of next config all after) stopped new × HaveTried (script_of next config all after) stopped new =
+      subst (λ (s : Script). DidRound s stopped new × HaveTried s stopped new) (script_on next steps words most valid waits config c given mid h after asked.done asked.gave)
+      (asked.did more longer on fits) in
       let parts : (k : ℕ) (gd : List Done) → slice_get all k ≡ Some gd → (g d : List Done) × (slice_get given k ≡ Some g) ×
       (slice_get asked.done k ≡ Some d) × (g ++ d ≡ gd) = λ k gd e.
       let lt = slice_get_within all k gd e in
@@ -167,8 +168,20 @@ module _ {P : Type 0} (next : P → Option Command) (steps : P → Reply → P �
               ∙ sym (map-append (λ (y : Done). y.1) x.0 x.1) ∙ ap (λ (l : List Done). replies_to l) x.4;
           short = within.short;
         },
-        inr round.0,
+        round.0,
+        round.1,
       )
+
+-- a round that programs did, as a round of their run
+pub done_round : {P : Type 0} (next : P → Option Command) (steps : P → Reply → P → Type 0) (words most : P → ℕ) (valid : P → Type 0) →
+    ((p : P) (c : Command) → valid p → next p ≡ Some c → Fits (words p) c × (0 < most p)) → (run : ProgramRun) (new : Collector) (before after : List P) →
+    MayGoOnWith next words most valid run before → DidAsk next steps words most valid (script_so_far next run before) run.collector new before after →
+    (last : ProgramRun) × HasDoneRound next steps words most valid run last before after
+done_round next steps words most valid waits run new before after far asked =
+    let on = so_far_next next steps words most valid waits run.config run.collector run.collector new before after run.given.value far refl refl asked in (
+      record run { collector = new; given = record run.given { value = joined run.given.value asked.done } },
+      record { config = refl; more = record { done = asked.done; gave = asked.gave; joined_is = refl }; did = on.1; tried = on.2 },
+    )
 
 module _ {P : Type 0} (next : P → Option Command) (words most : P → ℕ) (valid : P → Type 0) (config : Config) where
   -- a stop leaves the commands given, and the replies

@@ -1,10 +1,10 @@
 -- A run of the programs of a script, as lists of commands, is a run of the script. They may be run if the script may.
-use Rattle.nmgc_cycle.proofs.Vocabulary.{ℕ, zero, suc, ◌≡◌, ◌⊎◌, ◌+◌, ◌<◌, ◌≤◌, ◌++◌, ◌∙◌, List, [], ◌∷◌, map, drop, length, slice_get, slice_index_or, Option, None, Some, refl, sym, ap, subst, arith, inl, inr, append-nil, append_assoc, length-append, length-map, drop_at, option_to_list, Command, Reply, Done, Script, Layout, Plan, Run, State, plan_of, layout_of, last_state, answer_of, program_of, longer, longer_plan, longer_state, longer_run, MayGoOn, layout_longer, runs_are_of_longer, left_is_determined, answered_count, lawful_are_of_runs, RoundRows, Report, IsRun, IsRunOf, FitsRun, Follows, Continues, GaveEach, AreListed, MayRun, most_total, sum_by, sum_by-cons, replicate, get_or-replicate, slice_get_within, in_limits_fit, threads_few, total_few, segments_few, threads_of, script_of, all_replies, replies_to}
+use Rattle.nmgc_cycle.proofs.Vocabulary.{ℕ, zero, suc, ◌≡◌, ◌⊎◌, ◌+◌, ◌<◌, ◌≤◌, ◌++◌, ◌∙◌, List, [], ◌∷◌, map, drop, length, slice_get, slice_index_or, Option, None, Some, refl, sym, ap, subst, arith, inl, inr, append-nil, append_assoc, length-append, length-map, drop_at, option_to_list, Command, Reply, Done, Script, Layout, Plan, Run, State, plan_of, layout_of, last_state, answer_of, program_of, longer, longer_plan, longer_state, longer_run, MayGoOn, layout_longer, runs_are_of_longer, left_is_determined, answered_count, lawful_are_of_runs, RoundRows, Report, IsRun, IsRunOf, FitsRun, Follows, Continues, AreListed, MayRun, most_total, sum_by, sum_by-cons, replicate, get_or-replicate, slice_get_within, in_limits_fit, threads_few, total_few, segments_few, threads_of, script_of, all_replies, replies_to}
 use Rattle.nmgc_run_spec.specs.Lawful.{IsLawful, HoldsAtEnd}
 use Rattle.nmgc_run_laws.specs.laws.Longer.{rows_are_of_longer, answering}
 use Rattle.nmgc_script.specs.{Parts.total_words, Spelling.IsInLimits, Spelling.version_3}
 use Rattle.nmgc_mutator.specs.declared.program.Listed.{Listed}
-use Rattle.nmgc_cycle.specs.{Programs.IsRunOfPrograms, ScriptRuns.ListsRunAsScripts}
+use Rattle.nmgc_cycle.specs.{ScriptRuns.ListsRunAsScripts}
 use Rattle.nmgc_cycle.proofs.{rounds.LongerRuns.may_each, rounds.ListedRounds.listed_next, rounds.ListedRounds.listed_steps, rounds.ListedRounds.listed_words, rounds.ListedRounds.listed_most, rounds.ListedRounds.listed_valid, rounds.ListedRounds.lists_continue, rounds.SoFar.thread_at, lists.Plans.good_plan}
 
 -- the number of commands of a mutator that the rounds answered is the number of its replies

@@ -1,5 +1,5 @@
 -- A run of programs, one stop and one round further, and its events.
-use Rattle.nmgc_cycle.proofs.{Vocabulary.ℕ, Vocabulary.◌≡◌, Vocabulary.◌<◌, Vocabulary.◌≤◌, Vocabulary.◌+◌, Vocabulary.◌*◌, Vocabulary.Bool, Vocabulary.joined, Vocabulary.most_commands, Vocabulary.cycle_most, Vocabulary.◌∙◌, Vocabulary.◌++◌, Vocabulary.◌∷◌, Vocabulary.List, Vocabulary.[], Vocabulary.length, Vocabulary.Option, Vocabulary.Some, Vocabulary.refl, Vocabulary.sym, Vocabulary.ap, Vocabulary.subst, Vocabulary.arith, Vocabulary.length-append, Vocabulary.map, Vocabulary.true, Vocabulary.false, Vocabulary.Command, Vocabulary.Reply, Vocabulary.Done, Vocabulary.Config, Vocabulary.Script, Vocabulary.StopRow, Vocabulary.CycleRow, Vocabulary.RoundRows, Vocabulary.Event, Vocabulary.FitsRun, Vocabulary.HasStopped, Vocabulary.StopEnd, Vocabulary.GaveSome, Vocabulary.GaveMore, Vocabulary.HandsOn, Vocabulary.FailedStop, Vocabulary.ObservedOn, Vocabulary.ObservedPart, Vocabulary.ObservedRun, Vocabulary.ObservedSince, Vocabulary.ObservedStop, Vocabulary.ProgramRun, Vocabulary.StandsAfterStop, Vocabulary.StandsBeforeStop, Vocabulary.but_last, Vocabulary.each_event, Vocabulary.report_row, Vocabulary.script_of, Vocabulary.script_so_far, rounds.Continuing.gave_none, rounds.ObservedSoFar.more_none, rounds.ObservedSoFar.since_later, rounds.RunSoFar.stops_bound, rounds.SoFar.gave_both, rounds.SoFar.more_both, stops.Observing.round_failed, stops.Observing.round_observed, stops.Observing.stop_failed, stops.Observing.stop_observed, stops.Observing.stopped_any}
+use Rattle.nmgc_cycle.proofs.{Vocabulary.ℕ, Vocabulary.◌≡◌, Vocabulary.◌<◌, Vocabulary.◌≤◌, Vocabulary.◌+◌, Vocabulary.◌*◌, Vocabulary.Bool, Vocabulary.joined, Vocabulary.most_commands, Vocabulary.cycle_most, Vocabulary.◌∙◌, Vocabulary.◌++◌, Vocabulary.◌∷◌, Vocabulary.List, Vocabulary.[], Vocabulary.length, Vocabulary.Option, Vocabulary.Some, Vocabulary.refl, Vocabulary.sym, Vocabulary.ap, Vocabulary.subst, Vocabulary.arith, Vocabulary.length-append, Vocabulary.map, Vocabulary.true, Vocabulary.false, Vocabulary.Command, Vocabulary.Reply, Vocabulary.Done, Vocabulary.Config, Vocabulary.Script, Vocabulary.StopRow, Vocabulary.CycleRow, Vocabulary.RoundRows, Vocabulary.Event, Vocabulary.FitsRun, Vocabulary.HasStopped, Vocabulary.StopEnd, Vocabulary.GaveSome, Vocabulary.GaveMore, Vocabulary.HandsOn, Vocabulary.FailedStop, Vocabulary.None, Vocabulary.IfNone, Vocabulary.End, Vocabulary.further, Vocabulary.stays, Vocabulary.rounds_in, Vocabulary.stops_in, Vocabulary.ObservedFrom, Vocabulary.ObservedRest, Vocabulary.IsContinued, Vocabulary.IsContinuedTo, Vocabulary.HasDoneRound, Vocabulary.HasDoneStop, Vocabulary.IsRoundOrNone, Vocabulary.inl, Vocabulary.ObservedSince, Vocabulary.ObservedStop, Vocabulary.ProgramRun, Vocabulary.StandsAfterStop, Vocabulary.StandsBeforeStop, Vocabulary.each_further, Vocabulary.last_failed, Vocabulary.report_row, Vocabulary.script_of, Vocabulary.script_so_far, rounds.Continuing.gave_none, rounds.ObservedSoFar.more_none, rounds.ObservedSoFar.since_later, rounds.RunSoFar.stops_bound, rounds.SoFar.gave_both, rounds.SoFar.more_both, stops.Further.failed_round, stops.Further.failed_stop, stops.Further.no_further, stops.Further.observed_both, stops.Further.observed_round, stops.Further.observed_stop, stops.Observing.stopped_any}
 use Rattle.nmgc_cycle.specs.declared.observer.Event.TheVariants as event
 
 -- a run that only got another collector
@@ -32,27 +32,31 @@ pub record HandsRoundOn (old new : ProgramRun) (rows : RoundRows) : Type 0 where
 
 module _ {J : Type 0} (steps : J → Event → J → Type 0) where
   pub stop_on : (old new : ProgramRun) (stop : Option StopRow) (none cycles : List CycleRow) (m q : J) → HandsRowsOn old new stop none cycles →
-      ObservedStop steps m stop (map report_row cycles) q → ObservedOn steps old m new false q
-  stop_on old new stop none cycles m q h step first f =
-      stop_observed steps first m q old.collector new.collector h.row stop none cycles f h.none_is h.stop_is h.rounds h.stops h.hands step
+      ObservedStop steps m stop (map report_row cycles) q → ObservedFrom steps old.collector m new.collector false q
+  stop_on old new stop none cycles m q h step =
+      observed_stop steps m q old.collector new.collector h.row stop none cycles h.none_is h.stop_is h.rounds h.stops h.hands step
 
-  pub round_on : (old stopped new : ProgramRun) (rows : RoundRows) (p m q : J) → ObservedOn steps old p stopped false m → HandsRoundOn stopped new rows →
-      steps m (event.Round rows) q → ObservedOn steps old p new true q
-  round_on old stopped new rows p m q on h step first f =
-      round_observed steps first m q stopped.collector new.collector rows (on first f) h.reported h.stops h.cycles step
+  pub round_on : (old stopped new : ProgramRun) (rows : RoundRows) (p m q : J) → ObservedFrom steps old.collector p stopped.collector false m → HandsRoundOn stopped new rows →
+      steps m (event.Round rows) q → ObservedFrom steps old.collector p new.collector true q
+  round_on old stopped new rows p m q on h step =
+      observed_round steps p m q old.collector stopped.collector new.collector rows on h.reported h.stops h.cycles step
 
 module _ {J P : Type 0} (steps fails : J → Event → J → Type 0) (next : P → Option Command) (replies : P → Reply → P → Type 0) (words most : P → ℕ) (valid : P → Type 0)
     (old : ProgramRun) (before : List P) (stands : StandsBeforeStop next words most valid old before) where
   -- the run was given up before its script got longer
-  given_up : (after : List P) (p q : J) → ((first : J) → ObservedRun steps first old.collector true p → ObservedPart steps fails (script_so_far next old before) first q) →
-      GaveSome next replies words most valid before after → ObservedSince steps fails next replies words most valid old before after p q
-  given_up after p q part since = record {
+  given_up : (last : ProgramRun) (after : List P) (p q : J) → last.given.value ≡ old.given.value →
+      ObservedRest steps fails (script_so_far next old before) old.collector p q → GaveSome next replies words most valid before after →
+      IsRoundOrNone next replies words most valid last before after → ObservedSince steps fails next replies words most valid old before after p q
+  given_up last after p q same part since replied = record {
     given = old.given.value;
     between = before;
     more = more_none next replies words most valid before old.given.value stands.0.count stands.0.asked.valid_are;
     limits = stands.0.limits;
     observed = part;
     since = since;
+    last = last;
+    last_given = same;
+    replied = replied;
   }
 
   pub none_since : GaveSome next replies words most valid before before
@@ -60,7 +64,7 @@ module _ {J P : Type 0} (steps fails : J → Event → J → Type 0) (next : P �
 
   -- at the stop
   pub stop_gave_up : (p : J) → ObservedSince steps fails next replies words most valid old before before p p
-  stop_gave_up p = given_up before p p (λ first f. each_event old.collector true stands.1 f) none_since
+  stop_gave_up p = given_up old before p p refl (each_further old.collector true stands.1 ([], refl, no_further old.collector)) none_since (inl refl)
 
   module _ (new : ProgramRun) (stop : Option StopRow) (none cycles : List CycleRow) (h : HandsRowsOn old new stop none cycles) (answer : StopEnd)
       (answered : StandsAfterStop next words most valid new before answer) where
@@ -69,14 +73,14 @@ module _ {J P : Type 0} (steps fails : J → Event → J → Type 0) (next : P �
 
     -- at the stop's event
     pub event_gave_up : (p q : J) → FailedStop fails p stop (map report_row cycles) q → ObservedSince steps fails next replies words most valid old before before p q
-    event_gave_up p q failed = given_up before p q (λ first f.
-        but_last new.collector false stopped (stop_failed steps fails first p q old.collector new.collector h.row stop none cycles f h.none_is h.stop_is h.rounds h.stops h.hands failed))
-        none_since
+    event_gave_up p q failed = given_up old before p q refl (last_failed new.collector false stopped
+        (failed_stop steps fails p q old.collector new.collector h.row stop none cycles h.none_is h.stop_is h.rounds h.stops h.hands failed)) none_since (inl refl)
 
     -- in the round
-    pub round_gave_up : (after : List P) (p q : J) → ObservedOn steps old p new false q → GaveSome next replies words most valid before after →
-        ObservedSince steps fails next replies words most valid old before after p q
-    round_gave_up after p q on since = given_up after p q (λ first f. each_event new.collector false stopped (on first f)) since
+    pub round_gave_up : (after : List P) (p q : J) → ObservedFrom steps old.collector p new.collector false q → GaveSome next replies words most valid before after →
+        IsRoundOrNone next replies words most valid new before after → ObservedSince steps fails next replies words most valid old before after p q
+    round_gave_up after p q on since replied =
+        given_up new after p q (ap (λ (r : ProgramRun). r.given.value) h.rest) (each_further new.collector false stopped on) since replied
 
     -- no command was given at a stop
     pub stop_gave_none : GaveMore next replies words most valid before before old.given.value new.given.value
@@ -94,16 +98,19 @@ module _ {J P : Type 0} (steps fails : J → Event → J → Type 0) (next : P �
     -- at the round's event
     pub last_event_gave_up : (last : ProgramRun) (after : List P) (rows : RoundRows) (p m q : J) → last.config ≡ new.config →
         GaveMore next replies words most valid before after new.given.value last.given.value → StandsBeforeStop next words most valid last after →
-        ObservedOn steps old p new false m → HandsRoundOn new last rows → fails m (event.Round rows) q →
+        ObservedFrom steps old.collector p new.collector false m → HandsRoundOn new last rows → fails m (event.Round rows) q →
         ObservedSince steps fails next replies words most valid old before after p q
     last_event_gave_up last after rows p m q config more then on r failed = record {
       given = last.given.value;
       between = after;
       more = round_gave_more after last.given.value more;
       limits = subst (λ (x : Config). FitsRun (script_of next x last.given.value after)) (config ∙ config_stays) then.0.limits;
-      observed = λ first f. subst (λ (x : Config). ObservedPart steps fails (script_of next x last.given.value after) first q) (config ∙ config_stays)
-          (but_last last.collector true then.1 (round_failed steps fails first m q new.collector last.collector rows (on first f) r.reported r.stops r.cycles failed));
+      observed = subst (λ (x : Config). ObservedRest steps fails (script_of next x last.given.value after) old.collector p q) (config ∙ config_stays)
+          (last_failed last.collector true then.1 (failed_round steps fails p m q old.collector new.collector last.collector rows on r.reported r.stops r.cycles failed));
       since = gave_none next replies words most valid after then.0.asked.valid_are;
+      last = last;
+      last_given = refl;
+      replied = inl refl;
     }
 
 -- the most stops of a run
@@ -115,14 +122,29 @@ most_stops_of config count = most_commands + 2 * cycle_most (record {
   mutators = count;
 }) + 1
 
+-- stops and rounds, and more of them
+goes_both : {P : Type 0} (next : P → Option Command) (replies : P → Reply → P → Type 0) (words most : P → ℕ) (valid : P → Type 0)
+    (old mid : ProgramRun) (before between : List P) (new : ProgramRun) (after : List P) → IsContinued next replies words most valid old before mid between →
+    IsContinued next replies words most valid mid between new after → IsContinued next replies words most valid old before new after
+goes_both next replies words most valid old mid before between new after first stays = first
+goes_both next replies words most valid old mid before between new after first (further part stopped last own there on stop round) =
+    further part stopped new own after (goes_both next replies words most valid old mid before between part own first on) stop round
+
+-- a stop and a round
+pub one_further : {P : Type 0} (next : P → Option Command) (replies : P → Reply → P → Type 0) (words most : P → ℕ) (valid : P → Type 0)
+    (old mid new : ProgramRun) (before after : List P) → HasDoneStop next before old mid → HasDoneRound next replies words most valid mid new before after →
+    IsContinued next replies words most valid old before new after
+one_further next replies words most valid old mid new before after stop round = further old mid new before after stays stop round
+
 -- a run some stops and rounds further, whose observer was given their events
 pub record HasAdvanced {J P : Type 0} (steps : J → Event → J → Type 0) (next : P → Option Command) (replies : P → Reply → P → Type 0) (words most : P → ℕ)
     (valid : P → Type 0) (old new : ProgramRun) (before after : List P) (p q : J) : Type 0 where
   pub counted : length old.given.value ≡ length before
   pub config : new.config ≡ old.config
   pub more : GaveMore next replies words most valid before after old.given.value new.given.value
+  pub goes_on : IsContinued next replies words most valid old before new after
   pub stands : StandsBeforeStop next words most valid new after
-  pub observed : ObservedOn steps old p new true q
+  pub observed : ObservedFrom steps old.collector p new.collector true q
 
 module _ {J P : Type 0} (steps fails : J → Event → J → Type 0) (next : P → Option Command) (replies : P → Reply → P → Type 0) (words most : P → ℕ) (valid : P → Type 0) where
   pub not_advanced : (run : ProgramRun) (programs : List P) (p : J) → StandsBeforeStop next words most valid run programs →
@@ -131,8 +153,9 @@ module _ {J P : Type 0} (steps fails : J → Event → J → Type 0) (next : P �
     counted = stands.0.count;
     config = refl;
     more = more_none next replies words most valid programs run.given.value stands.0.count stands.0.asked.valid_are;
+    goes_on = stays;
     stands = stands;
-    observed = λ first f. f;
+    observed = ([], refl, no_further run.collector);
   }
 
   module _ (old mid : ProgramRun) (before between : List P) (p m : J) (h : HasAdvanced steps next replies words most valid old mid before between p m) where
@@ -148,15 +171,34 @@ module _ {J P : Type 0} (steps fails : J → Event → J → Type 0) (next : P �
       pub all_more_given : GaveMore next replies words most valid before after old.given.value new.given.value
       all_more_given = more_both next replies words most valid before between after old.given.value mid.given.value new.given.value h.counted h.more more
 
-      pub observed_further : (stop : Bool) → ObservedOn steps mid m new stop q → ObservedOn steps old p new stop q
-      observed_further stop on first f = on first (h.observed first f)
+      pub observed_further : (stop : Bool) → ObservedFrom steps mid.collector m new.collector stop q → ObservedFrom steps old.collector p new.collector stop q
+      observed_further stop on = observed_both steps p m q old.collector mid.collector new.collector stop h.observed on
 
-      pub advanced_further : StandsBeforeStop next words most valid new after → ObservedOn steps mid m new true q →
-          HasAdvanced steps next replies words most valid old new before after p q
-      advanced_further stands on = record {
+      pub goes_further : (end : Option End) → IsContinuedTo next replies words most valid mid between new after end → IsContinuedTo next replies words most valid old before new after end
+      goes_further None on = goes_both next replies words most valid old mid before between new after h.goes_on on
+      goes_further (Some end) on = (on.0, goes_both next replies words most valid old mid before between on.0 after h.goes_on on.1, on.2)
+
+      pub more_stops : length mid.collector.rows.stops < length new.collector.rows.stops → length old.collector.rows.stops < length new.collector.rows.stops
+      more_stops more =
+          let so_far = ap (λ (l : List StopRow). length l) h.observed.2.stops in
+          let all = length-append old.collector.rows.stops (stops_in h.observed.0) in
+          omega (arith, more, so_far, all)
+
+      pub more_rounds : (end : Option End) → IfNone end (length mid.collector.rows.rounds < length new.collector.rows.rounds) →
+          IfNone end (length old.collector.rows.rounds < length new.collector.rows.rounds)
+      more_rounds None more =
+          let so_far = ap (λ (l : List RoundRows). length l) h.observed.2.rounds in
+          let all = length-append old.collector.rows.rounds (rounds_in h.observed.0) in
+          omega (arith, more, so_far, all)
+      more_rounds (Some end) more = tt
+
+      pub advanced_further : IsContinued next replies words most valid mid between new after → StandsBeforeStop next words most valid new after →
+          ObservedFrom steps mid.collector m new.collector true q → HasAdvanced steps next replies words most valid old new before after p q
+      advanced_further goes_on stands on = record {
         counted = h.counted;
         config = config ∙ h.config;
         more = all_more_given;
+        goes_on = goes_further None goes_on;
         stands = stands;
         observed = observed_further true on;
       }

@@ -1,42 +1,14 @@
 -- An observer's events, one part after another: a stop or a round more, and the rows that were kept.
-use Rattle.nmgc_cycle.proofs.Vocabulary.{Err, Ok, OnErr, Result, ◌≡◌, List, [], ◌∷◌, ◌++◌, map, Bool, true, false, Option, Some, All, All-tail, refl, sym, ap, subst, ◌∙◌, append-nil, append_assoc, map-append, CycleRow, RoundRows, StopRow, End, MutatorEnd, Name, names_of, ends_of, Script, Collector, StopEnd, HasAnswered, HasStopped, IsFresh, HasNamesOnce, report_row, report_cycles, report_of, seen, Event, KeptRows, AlternateFrom, AreEventsOf, FailedRun, FailedStop, HandsOn, KeepsEvent, Observed, ObservedRun, ObservedStop, cycles_in, rounds_in, stop_follows, stops_in}
+use Rattle.nmgc_cycle.proofs.Vocabulary.{Err, Ok, OnErr, Result, ◌≡◌, List, [], ◌∷◌, ◌++◌, map, Bool, true, false, Option, Some, All, All-tail, refl, sym, ap, subst, ◌∙◌, append-nil, append_assoc, map-append, CycleRow, RoundRows, StopRow, End, MutatorEnd, Name, names_of, ends_of, Script, Collector, StopEnd, HasAnswered, HasStopped, IsFresh, HasNamesOnce, report_row, report_cycles, report_of, seen, Event, KeptRows, AreEventsOf, FailedRun, FailedStop, HandsOn, KeepsEvent, Observed, ObservedRun, ObservedStop, cycles_in, rounds_in, stops_in}
 use Rattle.nmgc_cycle.specs.declared.observer.Event.TheVariants as event
 use Rattle.nmgc_cycle.specs.declared.stop.StopEnd.TheVariants as answer
+use Rattle.nmgc_cycle.specs.laws.Events.{alternate_on, cycles_on, follows_on, observed_on, rounds_on, stops_on}
 use Rattle.nmgc_cycle.proofs.{stops.Censuses.names_stopped, stops.Reported.same_parts}
 
 -- a fact that holds after an error
 pub any_err : {T E P : Type 0} (r : Result T E) → P → OnErr r P
 any_err (Ok x) p = tt
 any_err (Err e) p = p
-
--- the rows among the events of two parts
-pub rounds_on : (first more : List Event) → rounds_in (first ++ more) ≡ rounds_in first ++ rounds_in more
-rounds_on [] more = refl
-rounds_on (event.Stop row cycles ∷ first) more = rounds_on first more
-rounds_on (event.Round rows ∷ first) more = ap (λ (l : List RoundRows). rows ∷ l) (rounds_on first more)
-
-pub stops_on : (first more : List Event) → stops_in (first ++ more) ≡ stops_in first ++ stops_in more
-stops_on [] more = refl
-stops_on (event.Stop row cycles ∷ first) more = ap (λ (l : List StopRow). row ∷ l) (stops_on first more)
-stops_on (event.Round rows ∷ first) more = stops_on first more
-
-pub cycles_on : (first more : List Event) → cycles_in (first ++ more) ≡ cycles_in first ++ cycles_in more
-cycles_on [] more = refl
-cycles_on (event.Stop row cycles ∷ first) more =
-    ap (λ (l : List CycleRow). cycles ++ l) (cycles_on first more) ∙ sym (append_assoc cycles (cycles_in first) (cycles_in more))
-cycles_on (event.Round rows ∷ first) more = cycles_on first more
-
--- the order of stops and rounds, from one part to the next
-pub alternate_on : (stop : Bool) (first more : List Event) → AlternateFrom stop first → AlternateFrom (stop_follows stop first) more →
-    AlternateFrom stop (first ++ more)
-alternate_on stop [] more f g = g
-alternate_on stop (event.Stop row cycles ∷ first) more f g = (f.0, alternate_on false first more f.1 g)
-alternate_on stop (event.Round rows ∷ first) more f g = (f.0, alternate_on true first more f.1 g)
-
-pub follows_on : (stop : Bool) (first more : List Event) → stop_follows stop (first ++ more) ≡ stop_follows (stop_follows stop first) more
-follows_on stop [] more = refl
-follows_on stop (event.Stop row cycles ∷ first) more = follows_on false first more
-follows_on stop (event.Round rows ∷ first) more = follows_on true first more
 
 -- the events with a stop more
 pub stop_events : (events : List Event) (old new : Collector) (row : StopRow) (none cycles : List CycleRow) → AreEventsOf old true events → none ≡ [] →
@@ -70,10 +42,6 @@ round_events events old new rows h rounds stops cycles =
     }
 
 module _ {J : Type 0} (steps : J → Event → J → Type 0) where
-  pub observed_on : (p m q : J) (first more : List Event) → Observed steps p first m → Observed steps m more q → Observed steps p (first ++ more) q
-  observed_on p m q [] more f g = subst (λ (x : J). Observed steps x more q) (sym f) g
-  observed_on p m q (e ∷ first) more f g = (f.0, f.1, observed_on f.0 m q first more f.2 g)
-
   pub observed_one : (p q : J) (e : Event) → steps p e q → Observed steps p (e ∷ []) q
   observed_one p q e s = (q, s, refl)
 
@@ -94,7 +62,7 @@ module _ {J : Type 0} (steps : J → Event → J → Type 0) where
       let reported : List CycleRow = map report_row cycles in
       let step : steps m (event.Stop row reported) q = subst (λ (s : Option StopRow). ObservedStop steps m s reported q) is f in (
         h.0 ++ event.Stop row reported ∷ [],
-        observed_on p m q h.0 (event.Stop row reported ∷ []) h.1 (observed_one m q (event.Stop row reported) step),
+        observed_on steps p m q h.0 (event.Stop row reported ∷ []) h.1 (observed_one m q (event.Stop row reported) step),
         stop_events h.0 old new row none cycles h.2 empty rounds stops hands,
       )
 
@@ -104,7 +72,7 @@ module _ {J : Type 0} (steps : J → Event → J → Type 0) where
       ObservedRun steps p new true q
   round_observed p m q old new rows h rounds stops cycles step = (
     h.0 ++ event.Round rows ∷ [],
-    observed_on p m q h.0 (event.Round rows ∷ []) h.1 (observed_one m q (event.Round rows) step),
+    observed_on steps p m q h.0 (event.Round rows ∷ []) h.1 (observed_one m q (event.Round rows) step),
     round_events h.0 old new rows h.2 rounds stops cycles,
   )
 

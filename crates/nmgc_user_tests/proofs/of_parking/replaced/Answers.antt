@@ -1,4 +1,7 @@
 use Rattle.std.proofs.Common.{refl, []}
+use Rattle.std.specs.Prelude.{false, true}
+use Rattle.nmgc_cycle.specs.Observed.{KeepsEvent}
+use Rattle.nmgc_cycle.specs.laws.Events.{the_rest_completes_a_run}
 use Rattle.nmgc_user_tests.proofs.Nones.{of_none}
 use Rattle.nmgc_user_tests.proofs.of_parking.replaced.Goals as goal
 
@@ -10,5 +13,6 @@ into_report-requires-clause-kept g c κs within =
       c.new-kept.ensures.0,
       c.new-kept.ensures.1,
       c.new-kept.ensures.2,
-      c.in-Ok-run_to_end.ensures.ended.1 kept (parked.2 kept ([], refl, c.in-Ok.ensures.events)),
+      the_rest_completes_a_run KeepsEvent kept _ _ _ _ false
+          (the_rest_completes_a_run KeepsEvent kept kept _ _ _ true ([], refl, c.in-Ok.ensures.events) parked.2) c.in-Ok-run_to_end.ensures.ended.1,
     )

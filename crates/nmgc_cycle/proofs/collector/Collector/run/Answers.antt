@@ -1,4 +1,4 @@
-use Rattle.nmgc_cycle.proofs.{Vocabulary.◌≡◌, Vocabulary.◌∙◌, Vocabulary.List, Vocabulary.[], Vocabulary.ℕ, Vocabulary.Command, Vocabulary.ap, Vocabulary.subst, Vocabulary.sym, Vocabulary.length, Vocabulary.replicate, Vocabulary.arith, Vocabulary.AreListed, Vocabulary.Report, Vocabulary.in_limits_fit, rounds.ScriptRuns.from_beginnings, rounds.ScriptRuns.lists_are_scripts, rounds.ScriptRuns.lists_may_run, rounds.ListedRounds.listed_next, rounds.ListedRounds.listed_steps, rounds.ListedRounds.listed_words, rounds.ListedRounds.listed_most, rounds.ListedRounds.listed_valid}
+use Rattle.nmgc_cycle.proofs.{Vocabulary.◌∙◌, Vocabulary.List, Vocabulary.ℕ, Vocabulary.Command, Vocabulary.ap, Vocabulary.subst, Vocabulary.sym, Vocabulary.length, Vocabulary.arith, Vocabulary.AreListed, Vocabulary.Report, Vocabulary.in_limits_fit, rounds.ScriptRuns.from_beginnings, rounds.ScriptRuns.lists_are_scripts, rounds.ScriptRuns.lists_may_run, rounds.ListedRounds.listed_next, rounds.ListedRounds.listed_steps, rounds.ListedRounds.listed_words, rounds.ListedRounds.listed_most, rounds.ListedRounds.listed_valid}
 use Rattle.std.proofs.lemmas.Result.{IfOk-weaker}
 use Rattle.nmgc_run_spec.specs.Lawful.{IsRunOf}
 use Rattle.nmgc_cycle.specs.Programs.{IsRunOfPrograms}

@@ -1,4 +1,5 @@
 use Rattle.nmgc_cycle.proofs.{Vocabulary.[], Vocabulary.false, Vocabulary.refl, Vocabulary.sym, Vocabulary.subst, Vocabulary.Collector, Vocabulary.HasRunPrograms, Vocabulary.ObservedRun, rounds.Continuing.gave_none, rounds.ObservedSoFar.no_part, rounds.ObservedSoFar.part_of_run, rounds.ObservedSoFar.whole_run, stops.Observing.any_err}
+use Rattle.nmgc_cycle.specs.laws.Events.{the_rest_completes_a_run}
 use Rattle.nmgc_cycle.proofs.collector.Collector.run_programs_observed.Goals as goal
 
 pub returns-clause-ok : goal.returns-clause-ok
@@ -8,7 +9,8 @@ returns-clause-ok g c =
     ObservedRun g.J.Observer.steps c.args.observer.now x false c.run_to_end.new.observer) (sym c.into_collector.ensures) (
       whole_run g.P.Program.next g.P.Program.steps g.P.Program.words g.P.Program.most g.P.Program.valid c.args.config.now c.in_ok-run.run' last c.args.programs.now c.run_to_end.new.programs c.in_ok-end.end c.in_ok-run.ensures.config
           c.in_ok-run.ensures.given c.run_to_end.ensures.config c.in_ok-end.ensures.more c.in_ok-end.ensures.ended.0,
-      c.in_ok-end.ensures.ended.1 c.args.observer.now ([], refl, c.in_ok-run.ensures.events),
+      the_rest_completes_a_run g.J.Observer.steps c.args.observer.now c.args.observer.now c.run_to_end.new.observer c.in_ok-run.run'.collector last.collector false
+          ([], refl, c.in_ok-run.ensures.events) c.in_ok-end.ensures.ended.1,
     )
 
 -- the run was given up: the events so far, of the script so far

@@ -1,4 +1,4 @@
-use Rattle.nmgc_cycle.proofs.{Vocabulary.ap, Vocabulary.subst, Vocabulary.◌∙◌, Vocabulary.List, Vocabulary.length, Vocabulary.arith, Vocabulary.ProgramRun, Vocabulary.StopEnd, Vocabulary.StopRow, Vocabulary.StandsAfterStop, rounds.StopByStop.HandsRoundOn, rounds.StopByStop.HandsRowsOn, rounds.StopByStop.config_stays, rounds.StopByStop.event_gave_up, rounds.StopByStop.last_event_gave_up, rounds.StopByStop.none_since, rounds.StopByStop.one_row_more, rounds.StopByStop.round_gave_more, rounds.StopByStop.round_gave_up, rounds.StopByStop.round_on, rounds.StopByStop.stop_gave_none, rounds.StopByStop.stop_gave_up, rounds.StopByStop.stop_on, stops.Observing.any_err, stops.Observing.once_handed}
+use Rattle.nmgc_cycle.proofs.{Vocabulary.ap, Vocabulary.subst, Vocabulary.◌∙◌, Vocabulary.List, Vocabulary.length, Vocabulary.[], Vocabulary.◌∷◌, Vocabulary.length-append, Vocabulary.arith, Vocabulary.ProgramRun, Vocabulary.StopEnd, Vocabulary.StopRow, Vocabulary.HasDoneStop, Vocabulary.RoundRows, Vocabulary.StandsAfterStop, Vocabulary.stays, rounds.StopByStop.HandsRoundOn, rounds.StopByStop.HandsRowsOn, rounds.StopByStop.config_stays, rounds.StopByStop.event_gave_up, rounds.StopByStop.last_event_gave_up, rounds.StopByStop.none_since, rounds.StopByStop.one_further, rounds.StopByStop.one_row_more, rounds.StopByStop.round_gave_more, rounds.StopByStop.round_gave_up, rounds.StopByStop.round_on, rounds.StopByStop.stop_gave_none, rounds.StopByStop.stop_gave_up, rounds.StopByStop.stop_on, stops.Observing.any_err, stops.Observing.once_handed}
 use Rattle.nmgc_cycle.proofs.program_run.ProgramRun.advance.Goals as goal
 
 pub observe_stop-requires : goal.observe_stop-requires
@@ -59,6 +59,23 @@ returns-in_ok-observe-in-GoOn-clause-stands g c =
           (stop_on g.J.Observer.steps c.args.self.now c.stop.new.self c.stop.new.rows.stop c.new-handed.result.cycles c.stop.new.rows.cycles c.args.observer.now c.observe_stop.new.observer h c.in_ok-observe_stop.ensures.ok) r c.in_ok-observe-in-GoOn.ensures.ok,
     )
 
+pub returns-in_ok-observe-in-GoOn-clause-goes_on : goal.returns-in_ok-observe-in-GoOn-clause-goes_on
+returns-in_ok-observe-in-GoOn-clause-goes_on g c =
+    let did : HasDoneStop g.P.Program.next c.args.programs.now c.args.self.now c.stop.new.self = record { rest = c.stop.ensures.rest; after = c.in_ok-answer.ensures.after; freed = c.in_ok-answer.ensures.freed } in
+    one_further g.P.Program.next g.P.Program.steps g.P.Program.words g.P.Program.most g.P.Program.valid c.args.self.now c.stop.new.self c.round.new.self c.args.programs.now c.round.new.programs did (record {
+      config = c.round.ensures.config;
+      more = c.in_ok-rows-in-GoOn.ensures.more;
+      did = c.in_ok-rows-in-GoOn.ensures.did;
+      tried = c.in_ok-rows-in-GoOn.ensures.mutator_turns;
+    })
+
+pub returns-in_ok-observe-in-GoOn-clause-rounds : goal.returns-in_ok-observe-in-GoOn-clause-rounds
+returns-in_ok-observe-in-GoOn-clause-rounds g c =
+    let reported = ap (λ (l : List RoundRows). length l) c.in_ok-rows-in-GoOn.ensures.reported in
+    let all = length-append c.stop.new.self.collector.rows.rounds (c.in_ok-rows-in-GoOn.rows ∷ []) in
+    let same = ap (λ (l : List RoundRows). length l) c.in_ok-answer.ensures.rounds in
+    omega (arith, reported, all, same)
+
 pub returns-in_ok-observe-in-GoOn-clause-stops : goal.returns-in_ok-observe-in-GoOn-clause-stops
 returns-in_ok-observe-in-GoOn-clause-stops g c =
     let more = one_row_more c.args.self.now.collector.rows.stops c.stop.new.self.collector.rows.stops c.in_ok-answer.ensures.stops.0
@@ -95,6 +112,9 @@ returns-in-Done-clause-ended g c =
       subst (λ (answer : StopEnd). StandsAfterStop g.P.Program.next g.P.Program.words g.P.Program.most g.P.Program.valid c.stop.new.self c.args.programs.now answer) c.in-Done.is c.in_ok-answer.ensures.answered,
       stop_on g.J.Observer.steps c.args.self.now c.stop.new.self c.stop.new.rows.stop c.new-handed.result.cycles c.stop.new.rows.cycles c.args.observer.now c.observe_stop.new.observer h c.in_ok-observe_stop.ensures.ok,
     )
+
+pub returns-in-Done-clause-goes_on : goal.returns-in-Done-clause-goes_on
+returns-in-Done-clause-goes_on g c = (c.args.self.now, stays, record { rest = c.stop.ensures.rest; after = c.in_ok-answer.ensures.after; freed = c.in_ok-answer.ensures.freed })
 
 pub returns-in-Done-clause-stops : goal.returns-in-Done-clause-stops
 returns-in-Done-clause-stops g c =
@@ -143,6 +163,9 @@ returns-in-HeapFull-clause-ended g c =
       subst (λ (answer : StopEnd). StandsAfterStop g.P.Program.next g.P.Program.words g.P.Program.most g.P.Program.valid c.stop.new.self c.args.programs.now answer) c.in-HeapFull.is c.in_ok-answer.ensures.answered,
       stop_on g.J.Observer.steps c.args.self.now c.stop.new.self c.stop.new.rows.stop c.new-handed.result.cycles c.stop.new.rows.cycles c.args.observer.now c.observe_stop.new.observer h c.in_ok-observe_stop.ensures.ok,
     )
+
+pub returns-in-HeapFull-clause-goes_on : goal.returns-in-HeapFull-clause-goes_on
+returns-in-HeapFull-clause-goes_on g c = (c.args.self.now, stays, record { rest = c.stop.ensures.rest; after = c.in_ok-answer.ensures.after; freed = c.in_ok-answer.ensures.freed })
 
 pub returns-in-HeapFull-clause-stops : goal.returns-in-HeapFull-clause-stops
 returns-in-HeapFull-clause-stops g c =
@@ -209,7 +232,7 @@ returns-in_err-rows-in-GoOn-clause-err g c =
       none_is = c.new-handed.ensures.1;
     } in
     any_err _ (round_gave_up g.J.Observer.steps g.J.Observer.fails g.P.Program.next g.P.Program.steps g.P.Program.words g.P.Program.most g.P.Program.valid c.args.self.now c.args.programs.now c.requires.stands c.stop.new.self c.stop.new.rows.stop c.new-handed.result.cycles c.stop.new.rows.cycles h c.in_ok-answer.answer c.in_ok-answer.ensures.answered c.round.new.programs c.args.observer.now c.observe_stop.new.observer
-    (stop_on g.J.Observer.steps c.args.self.now c.stop.new.self c.stop.new.rows.stop c.new-handed.result.cycles c.stop.new.rows.cycles c.args.observer.now c.observe_stop.new.observer h c.in_ok-observe_stop.ensures.ok) c.round.ensures.gave)
+    (stop_on g.J.Observer.steps c.args.self.now c.stop.new.self c.stop.new.rows.stop c.new-handed.result.cycles c.stop.new.rows.cycles c.args.observer.now c.observe_stop.new.observer h c.in_ok-observe_stop.ensures.ok) c.round.ensures.gave c.in_err-rows-in-GoOn.ensures.replied)
 
 pub returns-in_err-observe-in-GoOn-clause-config : goal.returns-in_err-observe-in-GoOn-clause-config
 returns-in_err-observe-in-GoOn-clause-config g c = c.round.ensures.config ∙ ap (λ (r : ProgramRun). r.config) c.stop.ensures.rest

@@ -1,8 +1,8 @@
 use Rattle.nmgc_cycle.proofs.{Vocabulary.List, Vocabulary.refl, Vocabulary.sym, Vocabulary.subst, Vocabulary.CanStop, Vocabulary.Done, Vocabulary.IsRunSoFar, Vocabulary.nothing_given, Vocabulary.script_of, rounds.RunSoFar.empty_limits, rounds.RunSoFar.so_far_first}
 use Rattle.nmgc_cycle.proofs.program_run.ProgramRun.new.Goals as goal
 
-pub new-requires : goal.new-requires
-new-requires g c = empty_limits g.P.Program.words g.P.Program.most g.P.Program.valid c.args.config.now c.args.programs.now c.requires c.in_ok-empty.empty c.in_ok-empty.ensures
+pub with_slices-requires : goal.with_slices-requires
+with_slices-requires g c = empty_limits g.P.Program.words g.P.Program.most g.P.Program.valid c.args.config.now c.args.programs.now c.requires c.in_ok-empty.empty c.in_ok-empty.ensures
 
 pub of-requires : goal.of-requires
 of-requires g c = (nothing_given c.args.programs.now, refl)

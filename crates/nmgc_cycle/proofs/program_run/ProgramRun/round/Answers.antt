@@ -1,4 +1,4 @@
-use Rattle.nmgc_cycle.proofs.{Vocabulary.◌≡◌, Vocabulary.None, Vocabulary.refl, Vocabulary.sym, Vocabulary.ap, Vocabulary.subst, Vocabulary.CanContinue, Vocabulary.DidAsk, Vocabulary.FitsRun, Vocabulary.GaveEach, Vocabulary.GaveMore, Vocabulary.HasStopped, Vocabulary.MayBeAsked, Vocabulary.Script, Vocabulary.joined, Vocabulary.script_so_far, rounds.RunSoFar.so_far_next, rounds.SoFar.may_continue}
+use Rattle.nmgc_cycle.proofs.{Vocabulary.◌≡◌, Vocabulary.None, Vocabulary.refl, Vocabulary.sym, Vocabulary.ap, Vocabulary.subst, Vocabulary.CanContinue, Vocabulary.Collector, Vocabulary.DidAsk, Vocabulary.DidRound, Vocabulary.HaveTried, Vocabulary.inl, Vocabulary.inr, Vocabulary.script_of, Vocabulary.FitsRun, Vocabulary.GaveEach, Vocabulary.GaveMore, Vocabulary.HasStopped, Vocabulary.MayBeAsked, Vocabulary.Script, Vocabulary.joined, Vocabulary.script_so_far, rounds.RunSoFar.done_round, rounds.RunSoFar.so_far_next, rounds.SoFar.may_continue, stops.Observing.any_err}
 use Rattle.nmgc_cycle.proofs.program_run.ProgramRun.round.Goals as goal
 
 pub of-before-requires : goal.of-before-requires
@@ -26,6 +26,9 @@ round_programs-requires-clause-continues g c κs within =
     subst (λ (s : Script). CanContinue g.P.Program.next g.P.Program.steps g.P.Program.words g.P.Program.most g.P.Program.valid s run.collector.positions.items c.args.programs.now) (sym c.script_so_far-script.ensures)
     (may_continue g.P.Program.next g.P.Program.steps g.P.Program.words g.P.Program.most g.P.Program.valid (g.met.P.Program g.world.𝓛 g.world.𝓜 g.world.𝓡 ((λ s x. x), (λ x. x), (λ x. x), λ x. x)).waits run.config run.collector run.given.value c.args.programs.now c.requires.stands.0 run.collector.positions.items refl)
 
+pub of-stopped-requires : goal.of-stopped-requires
+of-stopped-requires g c = (c.args.self.now.collector, refl)
+
 pub of-requires : goal.of-requires
 of-requires g c =
     let run = c.args.self.now in
@@ -34,7 +37,8 @@ of-requires g c =
     subst (λ (s : Script). DidAsk g.P.Program.next g.P.Program.steps g.P.Program.words g.P.Program.most g.P.Program.valid s run.collector c.round_programs.new.self c.args.programs.now after) c.script_so_far-script.ensures
     c.in_ok-rows.ensures.worked in
     let far = so_far_next g.P.Program.next g.P.Program.steps g.P.Program.words g.P.Program.most g.P.Program.valid (g.met.P.Program g.world.𝓛 g.world.𝓜 g.world.𝓡 ((λ s x. x), (λ x. x), (λ x. x), λ x. x)).waits run.config run.collector run.collector c.round_programs.new.self c.args.programs.now after run.given.value c.requires.stands.0 refl refl
-    asked in (
+    asked in
+    let script : Script = script_of g.P.Program.next run.config (joined run.given.value asked.done) after in (
       joined run.given.value asked.done,
       (
         record {
@@ -43,7 +47,8 @@ of-requires g c =
           joined_is = refl;
         },
         far.0,
-        far.1,
+        subst (λ (x : Collector). DidRound script x c.round_programs.new.self) (sym c.of-stopped.ensures) far.1,
+        subst (λ (x : Collector). HaveTried script x c.round_programs.new.self) (sym c.of-stopped.ensures) far.2,
       ),
     )
 
@@ -52,4 +57,23 @@ returns-clause-more g c =
     subst (λ l. GaveMore g.P.Program.next g.P.Program.steps g.P.Program.words g.P.Program.most g.P.Program.valid l c.round_programs.new.programs c.args.self.now.given.value c.of.result.value) c.of-before.ensures c.of.ensures.0
 
 pub returns-clause-stands : goal.returns-clause-stands
-returns-clause-stands g c = (c.of.ensures.1, c.of.ensures.2)
+returns-clause-stands g c = (c.of.ensures.1, inr c.of.ensures.2.0)
+
+pub returns-clause-did : goal.returns-clause-did
+returns-clause-did g c = subst (λ (x : Collector). DidRound (script_of g.P.Program.next c.args.self.now.config c.of.result.value c.round_programs.new.programs) x c.round_programs.new.self) c.of-stopped.ensures c.of.ensures.2
+
+pub returns-clause-mutator_turns : goal.returns-clause-mutator_turns
+returns-clause-mutator_turns g c = subst (λ (x : Collector). HaveTried (script_of g.P.Program.next c.args.self.now.config c.of.result.value c.round_programs.new.programs) x c.round_programs.new.self) c.of-stopped.ensures c.of.ensures.3
+
+-- the round was given up
+
+pub returns-in_err-rows-clause-replied : goal.returns-in_err-rows-clause-replied
+returns-in_err-rows-clause-replied g c =
+    let run = c.args.self.now in
+    let before = c.args.programs.now in
+    let after = c.round_programs.new.programs in
+    any_err _ (elim c.in_err-rows.ensures.replied [
+      | inl none ↦ inl none
+      | inr did ↦ inr (done_round g.P.Program.next g.P.Program.steps g.P.Program.words g.P.Program.most g.P.Program.valid (g.met.P.Program g.world.𝓛 g.world.𝓜 g.world.𝓡 ((λ s x. x), (λ x. x), (λ x. x), λ x. x)).waits run did.0 before after c.requires.stands.0
+          (subst (λ (s : Script). DidAsk g.P.Program.next g.P.Program.steps g.P.Program.words g.P.Program.most g.P.Program.valid s run.collector did.0 before after) c.script_so_far-script.ensures did.1))
+    ])

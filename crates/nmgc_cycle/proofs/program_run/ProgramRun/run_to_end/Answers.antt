@@ -1,4 +1,4 @@
-use Rattle.nmgc_cycle.proofs.{Vocabulary.◌∙◌, Vocabulary.Option, Vocabulary.arith, Vocabulary.false, Vocabulary.subst, Vocabulary.true, Vocabulary.IfNone, Vocabulary.IfSome, Vocabulary.End, Vocabulary.RunHasEnded, Vocabulary.ObservedOn, Vocabulary.StandsBeforeStop, rounds.StopByStop.advanced_further, rounds.StopByStop.all_more_given, rounds.StopByStop.gave_some_further, rounds.StopByStop.gave_up_further, rounds.StopByStop.not_advanced, rounds.StopByStop.observed_further, rounds.StopByStop.stops_left, stops.Observing.any_err}
+use Rattle.nmgc_cycle.proofs.{Vocabulary.◌∙◌, Vocabulary.Option, Vocabulary.arith, Vocabulary.false, Vocabulary.subst, Vocabulary.true, Vocabulary.Some, Vocabulary.IfNone, Vocabulary.IfSome, Vocabulary.End, Vocabulary.RunHasEnded, Vocabulary.IsContinuedTo, Vocabulary.ObservedFrom, Vocabulary.StandsBeforeStop, rounds.StopByStop.advanced_further, rounds.StopByStop.all_more_given, rounds.StopByStop.gave_some_further, rounds.StopByStop.gave_up_further, rounds.StopByStop.goes_further, rounds.StopByStop.more_stops, rounds.StopByStop.not_advanced, rounds.StopByStop.observed_further, rounds.StopByStop.stops_left, stops.Observing.any_err}
 use Rattle.nmgc_cycle.proofs.program_run.ProgramRun.run_to_end.Goals as goal
 
 pub stops-init : goal.stops-init
@@ -10,9 +10,9 @@ advance-requires-clause-stands g c κs within = c.stops.invariant.stands
 pub stops-preserved : goal.stops-preserved
 stops-preserved g c =
     let on = subst (λ (o : Option End). IfNone o (StandsBeforeStop g.P.Program.next g.P.Program.words g.P.Program.most g.P.Program.valid c.advance.new.self c.advance.new.programs ×
-    ObservedOn g.J.Observer.steps c.stops.self c.stops.observer c.advance.new.self true c.advance.new.observer)) c.in_default.is c.in_ok-ended.ensures.stands in
+    ObservedFrom g.J.Observer.steps c.stops.self.collector c.stops.observer c.advance.new.self.collector true c.advance.new.observer)) c.in_default.is c.in_ok-ended.ensures.stands in
     advanced_further g.J.Observer.steps g.J.Observer.fails g.P.Program.next g.P.Program.steps g.P.Program.words g.P.Program.most g.P.Program.valid c.args.self.now c.stops.self c.args.programs.now c.stops.programs c.args.observer.now c.stops.observer c.stops.invariant c.advance.new.self
-    c.advance.new.programs c.advance.new.observer c.advance.ensures.config c.in_ok-ended.ensures.more on.0 on.1
+    c.advance.new.programs c.advance.new.observer c.advance.ensures.config c.in_ok-ended.ensures.more (subst (λ (o : Option End). IsContinuedTo g.P.Program.next g.P.Program.steps g.P.Program.words g.P.Program.most g.P.Program.valid c.stops.self c.stops.programs c.advance.new.self c.advance.new.programs o) c.in_default.is c.in_ok-ended.ensures.goes_on) on.0 on.1
 
 pub stops-smaller : goal.stops-smaller
 stops-smaller g c =
@@ -29,10 +29,18 @@ pub returns-in-Some-clause-more : goal.returns-in-Some-clause-more
 returns-in-Some-clause-more g c = all_more_given g.J.Observer.steps g.J.Observer.fails g.P.Program.next g.P.Program.steps g.P.Program.words g.P.Program.most g.P.Program.valid c.args.self.now c.stops.self c.args.programs.now c.stops.programs c.args.observer.now c.stops.observer c.stops.invariant c.advance.new.self
     c.advance.new.programs c.advance.new.observer c.advance.ensures.config c.in_ok-ended.ensures.more
 
+pub returns-in-Some-clause-goes_on : goal.returns-in-Some-clause-goes_on
+returns-in-Some-clause-goes_on g c = goes_further g.J.Observer.steps g.J.Observer.fails g.P.Program.next g.P.Program.steps g.P.Program.words g.P.Program.most g.P.Program.valid c.args.self.now c.stops.self c.args.programs.now c.stops.programs c.args.observer.now c.stops.observer c.stops.invariant c.advance.new.self
+    c.advance.new.programs c.advance.new.observer c.advance.ensures.config c.in_ok-ended.ensures.more (Some c.in-Some.end) (subst (λ (o : Option End). IsContinuedTo g.P.Program.next g.P.Program.steps g.P.Program.words g.P.Program.most g.P.Program.valid c.stops.self c.stops.programs c.advance.new.self c.advance.new.programs o) c.in-Some.is c.in_ok-ended.ensures.goes_on)
+
+pub returns-in-Some-clause-stops : goal.returns-in-Some-clause-stops
+returns-in-Some-clause-stops g c = more_stops g.J.Observer.steps g.J.Observer.fails g.P.Program.next g.P.Program.steps g.P.Program.words g.P.Program.most g.P.Program.valid c.args.self.now c.stops.self c.args.programs.now c.stops.programs c.args.observer.now c.stops.observer c.stops.invariant c.advance.new.self
+    c.advance.new.programs c.advance.new.observer c.advance.ensures.config c.in_ok-ended.ensures.more c.in_ok-ended.ensures.stops
+
 pub returns-in-Some-clause-ended : goal.returns-in-Some-clause-ended
 returns-in-Some-clause-ended g c =
     let h = subst (λ (o : Option End). IfSome o (λ end. RunHasEnded g.P.Program.next g.P.Program.words g.P.Program.most g.P.Program.valid c.advance.new.self c.advance.new.programs end ×
-    ObservedOn g.J.Observer.steps c.stops.self c.stops.observer c.advance.new.self false c.advance.new.observer)) c.in-Some.is c.in_ok-ended.ensures.ended in (
+    ObservedFrom g.J.Observer.steps c.stops.self.collector c.stops.observer c.advance.new.self.collector false c.advance.new.observer)) c.in-Some.is c.in_ok-ended.ensures.ended in (
       h.0,
       observed_further g.J.Observer.steps g.J.Observer.fails g.P.Program.next g.P.Program.steps g.P.Program.words g.P.Program.most g.P.Program.valid c.args.self.now c.stops.self c.args.programs.now c.stops.programs c.args.observer.now c.stops.observer c.stops.invariant c.advance.new.self
           c.advance.new.programs c.advance.new.observer c.advance.ensures.config c.in_ok-ended.ensures.more false h.1,

@@ -1,6 +1,6 @@
 use Rattle.std.proofs.Common.{arith, refl}
 use Rattle.nmgc_cycle.proofs.starts.Fresh.{is_fresh}
-use Rattle.nmgc_cycle.proofs.collector.Collector.new.Goals as goal
+use Rattle.nmgc_cycle.proofs.collector.Collector.with_slices.Goals as goal
 
 pub returns-clause-fresh : goal.returns-clause-fresh
 returns-clause-fresh c = is_fresh c.layout_of-layout.result c.args.script.now _ c.layout_of-layout.ensures.value (record {
