@@ -3,6 +3,7 @@ pub mod AskedParts
 pub mod AskedRound
 pub mod Asking
 pub mod Continuing
+pub mod EndedSlices
 pub mod FollowedLeft
 pub mod Gathering
 pub mod GoneOn

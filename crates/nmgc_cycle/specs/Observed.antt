@@ -1,5 +1,5 @@
 -- The events of a run that an observer was given.
-use Rattle.std.specs.Prelude.{ℕ, ◌≡◌, List, [], ◌∷◌, ◌++◌, Bool, true, false, Option, Some, None}
+use Rattle.std.specs.Prelude.{ℕ, ◌≡◌, ◌+◌, All, List, [], ◌∷◌, ◌++◌, length, Bool, true, false, Option, Some, None}
 use Rattle.nmgc_journal.specs.{declared.report.RoundRows.RoundRows, declared.report.StopRow.StopRow, declared.report.CycleRow.CycleRow}
 use Rattle.nmgc_world_spec.specs.declared.command.{Command.Command, Reply.Reply}
 use Rattle.nmgc_script.specs.declared.script.{Config.Config, Script.Script}
@@ -50,14 +50,21 @@ ObservedStop steps p (Some row) cycles q = steps p (event.Stop row cycles) q
 abbrev pub FailedStop : {J : Type 0} → (J → Event → J → Type 0) → J → Option StopRow → List CycleRow → J → Type 0
 FailedStop fails p stop cycles q = (row : StopRow) × (stop ≡ Some row) × fails p (event.Stop row cycles) q
 
--- the events of the collector's run so far. Their rows are all its rows, in order, and stops and rounds alternate. `stop` says
--- whether a stop comes next
+-- the stops among events are numbered from n, and the cycles of a stop ended there
+abbrev pub AreNumbered : ℕ → List Event → Type 0
+AreNumbered n [] = Unit {0}
+AreNumbered n (event.Stop row cycles ∷ events) = (row.number ≡ n) × All (λ (cycle : CycleRow). cycle.ended ≡ n) cycles × AreNumbered (n + 1) events
+AreNumbered n (event.Round rows ∷ events) = AreNumbered n events
+
+-- the events of the collector's run so far. Their rows are all its rows, in order. Stops and rounds alternate, and stops are
+-- numbered from 0. `stop` says whether a stop comes next
 pub record AreEventsOf (c : Collector) (stop : Bool) (events : List Event) : Type 0 where
   pub rounds : rounds_in events ≡ c.rows.rounds
   pub stops : stops_in events ≡ c.rows.stops
   pub cycles : cycles_in events ≡ report_cycles c
   pub alternate : AlternateFrom true events
   pub next : stop_follows true events ≡ stop
+  pub numbered : AreNumbered 0 events
 
 -- an observer was given exactly the events of a collector's run so far
 abbrev pub ObservedRun : {J : Type 0} → (J → Event → J → Type 0) → J → Collector → Bool → J → Type 0
@@ -69,13 +76,14 @@ FailedRun steps fails p c stop q = (events : List Event) × (m : _) × (e : Even
     AreEventsOf c stop (events ++ e ∷ [])
 
 -- the events of a run from a stop on. Their rows follow the rows of the run until then, in order. A stop comes first, and stops
--- and rounds alternate. `stop` says whether a stop comes next
+-- and rounds alternate. Stops are numbered on. `stop` says whether a stop comes next
 pub record AreEventsFrom (old new : Collector) (stop : Bool) (events : List Event) : Type 0 where
   pub rounds : new.rows.rounds ≡ old.rows.rounds ++ rounds_in events
   pub stops : new.rows.stops ≡ old.rows.stops ++ stops_in events
   pub cycles : report_cycles new ≡ report_cycles old ++ cycles_in events
   pub alternate : AlternateFrom true events
   pub next : stop_follows true events ≡ stop
+  pub numbered : AreNumbered (length old.rows.stops) events
 
 -- an observer was given exactly the events from a stop on
 abbrev pub ObservedFrom : {J : Type 0} → (J → Event → J → Type 0) → Collector → J → Collector → Bool → J → Type 0
@@ -121,6 +129,6 @@ KeepsEvent before (event.Stop row cycles) after = (after.rounds ≡ before.round
     (after.cycles ≡ before.cycles ++ cycles)
 KeepsEvent before (event.Round rows) after = (after.rounds ≡ before.rounds ++ rows ∷ []) × (after.stops ≡ before.stops) × (after.cycles ≡ before.cycles)
 
--- the same cycles joined the collector's rows, and were handed on after those that wait already
-abbrev pub HandsOn : List CycleRow → List CycleRow → List CycleRow → List CycleRow → Type 0
-HandsOn old new before after = (rows : List CycleRow) × (new ≡ old ++ rows) × (after ≡ before ++ rows)
+-- the same cycles joined the collector's rows, and were handed on after those that wait already. They ended at this stop
+abbrev pub HandsOn : ℕ → List CycleRow → List CycleRow → List CycleRow → List CycleRow → Type 0
+HandsOn stop old new before after = (rows : List CycleRow) × (new ≡ old ++ rows) × (after ≡ before ++ rows) × All (λ (row : CycleRow). row.ended ≡ stop) rows

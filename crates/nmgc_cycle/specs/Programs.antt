@@ -12,7 +12,7 @@ use Rattle.nmgc_run_spec.specs.{Lawful.IsRunOf, AfterRound.program_of}
 use Rattle.nmgc_run_laws.specs.{Limits.FitsRun, Limits.most_commands, Longer.longer}
 use Rattle.nmgc_collector_laws.specs.Worked.{Done}
 use Rattle.nmgc_round.specs.{declared.table.Round.Round, View.Opening}
-use Rattle.nmgc_mutator.specs.{declared.mutator.Mutator.Mutator, declared.program.Listed.Listed, Programs.Gives, Programs.Follows, Slice.HasRoom}
+use Rattle.nmgc_mutator.specs.{declared.mutator.Mutator.Mutator, declared.program.Listed.Listed, Programs.Gives, Programs.Follows, Slice.HasRoom, Does.IsYield}
 use Rattle.nmgc_cycle.specs.{declared.collector.Collector.Collector, declared.worker.Worker.Worker, Keeps.DidRound, Keeps.HasEnded, Working.left_at, Working.DidSlices, Working.HaveAllWorked, Working.HaveTried, Working.in_blocks}
 use Rattle.nmgc_mutator.specs.declared.mutator.TheConstants.{MOST_PUSHED}
 use Rattle.nmgc_updrem.specs.Rings.{Receiver}
@@ -49,10 +49,20 @@ pub record GaveEach {P : Type 0} (next : P → Option Command) (steps : P → Re
   pub each : (k : ℕ) (p q : P) (d : List Done) → slice_get old k ≡ Some p → slice_get new k ≡ Some q → slice_get done k ≡ Some d →
       GaveOn next steps words most valid p q d
 
--- the rest of each program of the script: the commands done, and then commands that the program may give next
+-- a slice ended by itself, after these commands: the last one ends slices, or there are `slice` of them and the program has a next
+-- one. Then the slice is the same, whatever commands follow
+abbrev pub HasEndedItself : ℕ → Option Command → List Command → Type 0
+HasEndedItself slice next given = ((before : List Command) × (last : Command) × (given ≡ before ++ last ∷ []) × IsYield last) ⊎
+    ((length given ≡ slice) × ((c : Command) × (next ≡ Some c)))
+
+-- the commands that follow a slice: commands that the program may give next, or any others if the slice ended by itself
+abbrev pub MayComeAfter : ℕ → Option Command → List Command → List Command → Type 0
+MayComeAfter slice next given rest = Follows next rest ⊎ (HasEndedItself slice next given × (0 < length rest))
+
+-- the rest of each program of the script: the commands done, and then commands that may follow them
 abbrev pub Continues : {P : Type 0} → (P → Option Command) → Script → List ℕ → List P → List (List Done) → Type 0
 Continues next script positions programs done = (k : ℕ) (q : _) (d : List Done) → slice_get programs k ≡ Some q → slice_get done k ≡ Some d →
-    (rest : List Command) × (left_at script positions k ≡ commands_given d ++ rest) × Follows (next q) rest
+    (rest : List Command) × (left_at script positions k ≡ commands_given d ++ rest) × MayComeAfter script.config.slice (next q) (commands_given d) rest
 
 -- the rest of each program of a script begins with the program's next command, and is empty at its end
 pub record FollowEach {P : Type 0} (next : P → Option Command) (script : Script) (positions : List ℕ) (programs : List P) : Type 0 where

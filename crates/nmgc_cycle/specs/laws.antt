@@ -1,2 +1,5 @@
+pub mod EventTexts
 pub mod Events
+pub mod Queues
 pub mod Replaced
+pub mod Sessions

@@ -218,7 +218,7 @@ impl Collector {
     // If a cycle sweeps and no segment waits, ends the cycle: hands its row on, and keeps the sweeper's counts of passes.
     pub(crate) fn try_end(&mut self, stop: u32, rows: &mut List<CycleRow>) -> Result<(), NoMemory>
         ensures ends { OnOk result (Ends stop self.old.cycle.progress self.old self.new) }
-        ensures handed { OnOk result (HandsOn self.old.rows.cycles self.new.rows.cycles rows.old rows.new) }
+        ensures handed { OnOk result (HandsOn stop self.old.rows.cycles self.new.rows.cycles rows.old rows.new) }
     {
         if !self.is_swept() {
             return Ok(());

@@ -69,7 +69,7 @@ impl Collector {
     ) -> Result<(), NoMemory>
         requires stands { StandsAtStop stop self.old }
         ensures finished { OnOk result (HasFinished stop self.old self.new) }
-        ensures handed { OnOk result (HandsOn self.old.rows.cycles self.new.rows.cycles rows.old rows.new) }
+        ensures handed { OnOk result (HandsOn stop self.old.rows.cycles self.new.rows.cycles rows.old rows.new) }
     {
         a_finish_leads();
         self.close_now(stop);
@@ -88,7 +88,7 @@ impl Collector {
         requires stands { StandsAtStop stop self.old }
         requires number { self.old.cycle.begun + 1 < 2 ^ 32 }
         ensures full { OnOk result (HasDoneFull stop self.old self.new) }
-        ensures handed { OnOk result (HandsOn self.old.rows.cycles self.new.rows.cycles rows.old rows.new) }
+        ensures handed { OnOk result (HandsOn stop self.old.rows.cycles self.new.rows.cycles rows.old rows.new) }
     {
         a_due_cycle_leads();
         self.finish_cycle(rt, stop, rows)?;
@@ -112,7 +112,7 @@ impl Collector {
         requires stands { StandsAtStop stop self.old }
         requires number { self.old.cycle.begun + 1 < 2 ^ 32 }
         ensures proceeds { OnOk result (Proceeds trigger left stop self.old self.new) }
-        ensures handed { OnOk result (HandsOn self.old.rows.cycles self.new.rows.cycles rows.old rows.new) }
+        ensures handed { OnOk result (HandsOn stop self.old.rows.cycles self.new.rows.cycles rows.old rows.new) }
     {
         a_due_cycle_leads();
         if self.is_full_due(left) {

@@ -25,7 +25,9 @@
 
 mod asking;
 mod collector;
+mod command_queue;
 mod cycle;
+mod event_laws;
 mod full;
 mod name_notes;
 mod observer;
@@ -36,14 +38,18 @@ mod programs;
 mod progress;
 mod round;
 mod round_laws;
+mod session;
 mod stop;
 mod stop_laws;
 mod weaks;
 mod worker;
 
 pub use collector::Collector;
+pub use command_queue::CommandQueue;
+pub use event_laws::events_are_the_report;
 pub use name_notes::put_rows_in_order;
 pub use observer::{Event, Forgetful, KeptRows, Observer, RunFault};
 pub use program_laws::lists_run_as_scripts;
 pub use program_run::{Bounded, MOST_COMMANDS, Parks, ProgramRun};
+pub use session::Session;
 pub use stop::{StopEnd, StopRows};

@@ -244,8 +244,8 @@ impl ProgramRun {
         ensures after { OnOk result (StopsAfter (script_of_so_far P.next self.old programs.now) self.old.collector self.new.collector) }
         ensures freed { OnOk result (NothingReachableIsFreed (script_of_so_far P.next self.old programs.now) self.new.collector) }
         ensures rounds { OnOk result (self.new.collector.rows.rounds ≡ self.old.collector.rows.rounds) }
-        ensures stops { OnOk result ((row : StopRow) × (self.new.collector.rows.stops ≡ self.old.collector.rows.stops ++ row ∷ []) × (rows.new.stop ≡ Some row)) }
-        ensures cycles { OnOk result (HandsOn self.old.collector.rows.cycles self.new.collector.rows.cycles rows.old.cycles rows.new.cycles) }
+        ensures stops { OnOk result ((row : StopRow) × (self.new.collector.rows.stops ≡ self.old.collector.rows.stops ++ row ∷ []) × (rows.new.stop ≡ Some row) × (row.number ≡ length self.old.collector.rows.stops)) }
+        ensures cycles { OnOk result (HandsOn (length self.old.collector.rows.stops) self.old.collector.rows.cycles self.new.collector.rows.cycles rows.old.cycles rows.new.cycles) }
     {
         let script = self.script_so_far(programs);
         let answer = self

@@ -28,8 +28,9 @@
 ghost use Rattle.std.specs.Prelude.{ℕ, ◌≡◌, ◌↔◌, ◌^◌, ◌<◌, [], ◌∷◌, ◌++◌, IfOk, OnOk, IsSome, IsTrue, None, Some, length, slice_get};
 ghost use Rattle.nmgc_stop_spec.specs.Stopped.{Stopped};
 ghost use Rattle.nmgc_minor.specs.Promotion.{IsFor};
-ghost use Rattle.nmgc_cycle.specs.{Cycles.MarksOn, Shown.turns_of, Shown.upper_turns_of, Shown.mutator_turns_of, Keeps.CanStop, Keeps.HasAnswered, Keeps.StopsAfter, Stopping.StandsStopped, Stopping.CanList, Stopping.HasListed, Stopping.HasPromoted, Stopping.SomeIsLeft, Stopping.IsDone, Stopping.IsHeapFullAt, Stopping.ended_by, Keeps.NothingReachableIsFreed, Programs.FollowEach, Observed.HandsOn};
+ghost use Rattle.nmgc_cycle.specs.{Cycles.MarksOn, Shown.turns_of, Shown.upper_turns_of, Shown.mutator_turns_of, Keeps.CanStop, Keeps.HasAnswered, Keeps.StopsAfter, Stopping.StandsStopped, Stopping.CanList, Stopping.HasListed, Stopping.HasPromoted, Stopping.SomeIsLeft, Stopping.IsDone, Stopping.IsHeapFullAt, Stopping.ended_by, Keeps.NothingReachableIsFreed, Programs.FollowEach, Observed.HandsOn, Open.MayBeScript};
 ghost use Rattle.nmgc_run_laws.specs.Limits.{FitsRun};
+ghost use Rattle.nmgc_script.specs.declared.script.Script.{Script as ScriptSeen};
 ghost use Rattle.nmgc_cycle.specs.declared.stop.StopEnd.TheVariants as answer;
 ghost use Rattle.nmgc_sweep.specs.NameTable.{HaveEntries};
 
@@ -44,6 +45,7 @@ use nmgc_journal::{CycleRow, End, Phase, StopRow};
 use nmgc_lists::{List, NoMemory};
 use nmgc_mutator::Program;
 use nmgc_round::Witness;
+use nmgc_round::witness::WitnessFor;
 use nmgc_script::{Config, Script};
 use nmgc_weak::laws::weaks_without_value_leave_the_list;
 use std::alloc::Global;
@@ -78,6 +80,15 @@ impl StopRows {
             cycles: List::new(alloc),
         }
     }
+}
+
+// A script in whose run a stop may be done.
+pub(crate) struct StopScript;
+
+impl<'a> WitnessFor<(&'a Config, &'a Collector, bool), Script> for StopScript {
+    ghost use Rattle.nmgc_cycle.specs.Open.{MayBeScript};
+
+    ghost wanted = { λ about script. MayBeScript about.0.now about.2 about.1.now script };
 }
 
 impl Collector {
@@ -119,8 +130,8 @@ impl Collector {
         ensures marks_on { OnOk result (MarksOn self.old self.new) }
         ensures freed { OnOk result (NothingReachableIsFreed script.now self.new) }
         ensures rounds { OnOk result (self.new.rows.rounds ≡ self.old.rows.rounds) }
-        ensures stops { OnOk result ((row : StopRow) × (self.new.rows.stops ≡ self.old.rows.stops ++ row ∷ []) × (rows.new.stop ≡ Some row)) }
-        ensures cycles { OnOk result (HandsOn self.old.rows.cycles self.new.rows.cycles rows.old.cycles rows.new.cycles) }
+        ensures stops { OnOk result ((row : StopRow) × (self.new.rows.stops ≡ self.old.rows.stops ++ row ∷ []) × (rows.new.stop ≡ Some row) × (row.number ≡ length self.old.rows.stops)) }
+        ensures cycles { OnOk result (HandsOn (length self.old.rows.stops) self.old.rows.cycles self.new.rows.cycles rows.old.cycles rows.new.cycles) }
         ensures mutator_turns { OnOk result (mutator_turns_of self.new ≡ mutator_turns_of self.old) }
         ensures turns { OnOk result (turns_of self.new ≡ turns_of self.old) }
         ensures upper_turns { OnOk result (upper_turns_of self.new ≡ upper_turns_of self.old) }
@@ -150,11 +161,33 @@ impl Collector {
         ensures freed { OnOk result (NothingReachableIsFreed script.now.value self.new) }
         ensures positions { OnOk result (self.new.positions.items ≡ self.old.positions.items) }
         ensures rounds { OnOk result (self.new.rows.rounds ≡ self.old.rows.rounds) }
-        ensures stops { OnOk result ((row : StopRow) × (self.new.rows.stops ≡ self.old.rows.stops ++ row ∷ []) × (rows.new.stop ≡ Some row)) }
-        ensures cycles { OnOk result (HandsOn self.old.rows.cycles self.new.rows.cycles rows.old.cycles rows.new.cycles) }
+        ensures stops { OnOk result ((row : StopRow) × (self.new.rows.stops ≡ self.old.rows.stops ++ row ∷ []) × (rows.new.stop ≡ Some row) × (row.number ≡ length self.old.rows.stops)) }
+        ensures cycles { OnOk result (HandsOn (length self.old.rows.stops) self.old.rows.cycles self.new.rows.cycles rows.old.cycles rows.new.cycles) }
     {
         let left = is_some_left(programs);
         self.do_stop(rt, config.trigger, script, left, rows)
+    }
+
+    // Does a stop of a run whose script isn't known yet, as `stop` does, and returns its answer. `left` says whether any program
+    // has commands left. The stop is the same for every script in whose run it may be done, and there has to be one.
+    pub(crate) fn stop_open<R: Threads + Sync>(
+        &mut self,
+        rt: &R,
+        config: &Config,
+        left: bool,
+        rows: &mut StopRows,
+    ) -> Result<StopEnd, NoMemory>
+        requires may { (script : ScriptSeen) × MayBeScript config.now left self.old script }
+        ensures each { IfOk result (λ end. (script : ScriptSeen) → MayBeScript config.now left self.old script → HasAnswered script self.new end) }
+        ensures positions { OnOk result (self.new.positions.items ≡ self.old.positions.items) }
+        ensures rounds { OnOk result (self.new.rows.rounds ≡ self.old.rows.rounds) }
+        ensures stops { OnOk result ((row : StopRow) × (self.new.rows.stops ≡ self.old.rows.stops ++ row ∷ []) × (rows.new.stop ≡ Some row) × (row.number ≡ length self.old.rows.stops)) }
+        ensures cycles { OnOk result (HandsOn (length self.old.rows.stops) self.old.rows.cycles self.new.rows.cycles rows.old.cycles rows.new.cycles) }
+    {
+        let script = Witness::of::<(&Config, &Collector, bool), StopScript>(&(
+            config, &*self, left,
+        ));
+        self.do_stop(rt, config.trigger, &script, left, rows)
     }
 
     // Does a stop of the run of this script, and returns its answer. `left` says whether any program has commands left.
@@ -171,6 +204,8 @@ impl Collector {
         requires left { IsTrue left ↔ SomeIsLeft script.now.value.threads self.old.positions.items }
         requires can { CanStop script.now.value self.old }
         ensures answered { IfOk result (λ end. HasAnswered script.now.value self.new end) }
+        ensures each { IfOk result (λ end. (other : ScriptSeen) → FitsRun other → trigger ≡ other.config.trigger →
+            IsTrue left ↔ SomeIsLeft other.threads self.old.positions.items → CanStop other self.old → HasAnswered other self.new end) }
         ensures after { OnOk result (StopsAfter script.now.value self.old self.new) }
         ensures done { IfOk result (λ end. (end ≡ answer.Done) ↔ IsDone script.now.value self.new) }
         ensures full { IfOk result (λ end. (free reserve : ℕ) → (end ≡ answer.HeapFull free reserve) ↔
@@ -179,8 +214,8 @@ impl Collector {
         ensures freed { OnOk result (NothingReachableIsFreed script.now.value self.new) }
         ensures positions { OnOk result (self.new.positions.items ≡ self.old.positions.items) }
         ensures rounds { OnOk result (self.new.rows.rounds ≡ self.old.rows.rounds) }
-        ensures stops { OnOk result ((row : StopRow) × (self.new.rows.stops ≡ self.old.rows.stops ++ row ∷ []) × (rows.new.stop ≡ Some row)) }
-        ensures cycles { OnOk result (HandsOn self.old.rows.cycles self.new.rows.cycles rows.old.cycles rows.new.cycles) }
+        ensures stops { OnOk result ((row : StopRow) × (self.new.rows.stops ≡ self.old.rows.stops ++ row ∷ []) × (rows.new.stop ≡ Some row) × (row.number ≡ length self.old.rows.stops)) }
+        ensures cycles { OnOk result (HandsOn (length self.old.rows.stops) self.old.rows.cycles self.new.rows.cycles rows.old.cycles rows.new.cycles) }
         ensures mutator_turns { OnOk result (mutator_turns_of self.new ≡ mutator_turns_of self.old) }
         ensures turns { OnOk result (turns_of self.new ≡ turns_of self.old) }
         ensures upper_turns { OnOk result (upper_turns_of self.new ≡ upper_turns_of self.old) }

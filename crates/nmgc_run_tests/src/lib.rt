@@ -12,4 +12,6 @@ mod of_programs;
 #[cfg(test)]
 mod of_retain;
 #[cfg(test)]
+mod of_sessions;
+#[cfg(test)]
 mod worked;

@@ -1,5 +1,6 @@
 -- Workers that ask programs, in parts: each part may if all may, and all have if each part has.
-use Rattle.nmgc_cycle.proofs.Vocabulary.{ℕ, ◌≡◌, ◌+◌, ◌-◌, ◌<◌, List, [], ◌∷◌, ◌++◌, map, Option, refl, sym, subst, ap, ◌∙◌, length, slice_index_or, get_or, length-append, arith, inl, inr, cases_lt, get_or_append_left, get_or-append-add, get_or-append_right, Command, Reply, Round, Worker, CanAsk, HasAskedOn, CanAskAll, HaveAskedAll, Follows, length-map, take_at, HasWorkedOn}
+use Rattle.nmgc_cycle.proofs.Vocabulary.{ℕ, ◌≡◌, ◌+◌, ◌-◌, ◌<◌, List, [], ◌∷◌, ◌++◌, map, Option, refl, sym, subst, ap, ◌∙◌, length, slice_index_or, get_or, length-append, arith, inl, inr, cases_lt, get_or_append_left, get_or-append-add, get_or-append_right, Command, Reply, Round, Worker, CanAsk, HasAskedOn, CanAskAll, HaveAskedAll, MayComeAfter, length-map, take_at, HasWorkedOn}
+use Rattle.nmgc_cycle.proofs.rounds.EndedSlices.{ended_any, some_follow}
 
 module _ {A : Type 0} {B : Type 0} (R : A → A → B → B → Type 0) (ms fs bs gs cs : List A) (ps hs ds is es : List B) where
   pub each_joined : ms ≡ fs ++ bs → ps ≡ hs ++ ds → length fs ≡ length hs → length gs ≡ length fs → length is ≡ length hs →
@@ -73,17 +74,23 @@ pub all_valid : {P : Type 0} (words most : P → ℕ) (valid : P → Type 0) (ro
 all_valid words most valid round slice [] ps h k p lt = let c = h.count in absurd (omega (arith, c, lt))
 all_valid words most valid round slice (m ∷ ms) ps h k p lt = let c = h.count in (h.each k m p (omega (arith, c, lt))).valid_is
 
--- a worker that asked its program did its slice of any list that begins with the commands given and goes on as the program may
+-- a worker that asked its program did its slice of any list that begins with the commands given and may go on after them
 pub worked_as_asked : {P : Type 0} (next : P → Option Command) (steps : P → Reply → P → Type 0) (words most : P → ℕ) (valid : P → Type 0) (round : Round)
     (slice : ℕ) (old new : Worker) (p q : P) (h : HasAskedOn next steps words most valid round slice old new p q) (rest : List Command) →
-    Follows (next q) rest → HasWorkedOn round slice (map (λ d. d.0) h.asked.done ++ rest) old new
+    MayComeAfter slice (next q) (map (λ d. d.0) h.asked.done) rest → HasWorkedOn round slice (map (λ d. d.0) h.asked.done ++ rest) old new
 worked_as_asked next steps words most valid round slice old new p q h rest f = record {
   run = (
     h.asked.done,
     sym (take_at (map (λ d. d.0) h.asked.done) rest new.done (length-map h.asked.done (λ d. d.0) ∙ h.asked.count_is)),
     h.asked.run,
   );
-  ended = h.asked.ended rest f;
+  ended = elim f [
+    | inl follows ↦ h.asked.ended rest follows
+    | inr itself ↦
+        let first = some_follow (next q) in
+        ended_any (map (λ d. d.0) h.asked.done) first.0 rest slice new.done new.mutator new.end (next q)
+        (sym (length-map h.asked.done (λ d. d.0) ∙ h.asked.count_is)) first.1 itself.0 itself.1 (h.asked.ended first.0 first.1)
+  ];
   turns = h.turns;
   most = h.most_is;
 }

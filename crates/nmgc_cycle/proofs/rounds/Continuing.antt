@@ -1,5 +1,5 @@
 -- The slices of workers that asked programs, as slices of a script that has the commands given.
-use Rattle.nmgc_cycle.proofs.Vocabulary.{ℕ, ◌≡◌, ◌++◌, ◌∙◌, List, map, length, slice_get, slice_index_or, Option, Some, refl, sym, ap, subst, arith, slice_get_within, get_or_from_slice_get, Command, Reply, Done, Round, Script, Worker, HasWorkedOn, HaveAllWorked, HasAskedOn, HaveAskedAll, left_at, Continues, GaveEach, GaveSome, item, item_map, length-map, All-nil, Fits, no_done}
+use Rattle.nmgc_cycle.proofs.Vocabulary.{ℕ, ◌≡◌, ◌++◌, ◌∙◌, List, map, length, slice_get, slice_index_or, Option, Some, refl, sym, ap, subst, arith, slice_get_within, get_or_from_slice_get, Command, Reply, Done, Round, Script, Worker, HasWorkedOn, HaveAllWorked, HasAskedOn, HaveAskedAll, left_at, Continues, GaveEach, GaveSome, item, item_map, length-map, All-nil, Fits, no_done, MayComeAfter}
 use Rattle.nmgc_cycle.proofs.{lists.Items.chosen, rounds.AskedParts.worked_as_asked}
 use Rattle.nmgc_cycle.specs.Programs.{GaveOn}
 
@@ -87,7 +87,9 @@ module _ {P : Type 0} (next : P → Option Command) (steps : P → Reply → P �
         let h = all_done.2 k x.0 d.0 x.1 d.1 in
         let rest = on k h.q d.0 h.q_is d.1 in
         let did : HasWorkedOn round slice (map (λ (y : Done). y.0) h.did.asked.done ++ rest.0) h.old x.0 =
-        worked_as_asked next steps words most valid round slice h.old x.0 h.p h.q h.did rest.0 rest.2 in
+        worked_as_asked next steps words most valid round slice h.old x.0 h.p h.q h.did rest.0
+        (subst (λ (l : List Done). MayComeAfter slice (next h.q) (map (λ (y : Done). y.0) l) rest.0) (sym h.done_is)
+        (subst (λ (n : ℕ). MayComeAfter n (next h.q) (map (λ (y : Done). y.0) d.0) rest.0) (sym slice_is) rest.2)) in
         let left : map (λ (y : Done). y.0) h.did.asked.done ++ rest.0 ≡ left_at script positions k =
         ap (λ (l : List Done). map (λ (y : Done). y.0) l ++ rest.0) h.done_is ∙ sym rest.1 in
         let old_there = get_or_from_slice_get was k h.old w h.old_is in

@@ -19,13 +19,18 @@ longer_none (p ∷ programs) = refl
 pub same_script : (script : Script) → longer_script [] script ≡ script
 same_script script = ap (λ (l : List (List Command)). record script { threads = l }) (longer_none script.threads)
 
+-- the rest of each program of a script: the commands given, and then commands that begin with the program's next command
+abbrev pub FollowDone : {P : Type 0} → (P → Option Command) → Script → List ℕ → List P → List (List Done) → Type 0
+FollowDone next script positions programs done = (k : ℕ) (q : _) (d : List Done) → slice_get programs k ≡ Some q → slice_get done k ≡ Some d →
+    (rest : List Command) × (left_at script positions k ≡ map (λ (x : Done). x.0) d ++ rest) × Follows (next q) rest
+
 -- programs that read the script's commands at its positions
 module _ {P : Type 0} (next : P → Option Command) (steps : P → Reply → P → Type 0) (words most : P → ℕ) (valid : P → Type 0) (commands : P → List Command)
     (position : P → ℕ) (reads : (p : P) → next p ≡ slice_get (commands p) (position p))
     (moves : (p q : P) (r : Reply) → steps p r q → (commands q ≡ commands p) × (position q ≡ position p + 1)) (script : Script) (positions : List ℕ) (ps : List P)
     (are : (k : ℕ) (p : P) → slice_get ps k ≡ Some p → (commands p ≡ program_of script.threads k) × (position p ≡ slice_index positions k)) where
-  pub listed_continues : (qs : List P) (done : List (List Done)) → GaveEach next steps words most valid ps qs done → Continues next script positions qs done
-  listed_continues qs done gave k q d e f =
+  pub listed_follow : (qs : List P) (done : List (List Done)) → GaveEach next steps words most valid ps qs done → FollowDone next script positions qs done
+  listed_follow qs done gave k q d e f =
       let within = slice_get_within qs k q e in
       let p = item ps k (let n = gave.programs in subst (λ (n : ℕ). k < n) n within) in
       let h = listed next steps commands position reads moves p.0 q d (gave.each k p.0 q d p.1 e f).gives in
@@ -41,6 +46,9 @@ module _ {P : Type 0} (next : P → Option Command) (steps : P → Reply → P �
         subst (λ (l : List Command). Follows (next q) l) rest
             (subst (λ (o : Option Command). Follows o (drop (position q) (commands q))) (sym (reads q)) (follows_at (commands q) (position q))),
       )
+
+  pub listed_continues : (qs : List P) (done : List (List Done)) → GaveEach next steps words most valid ps qs done → Continues next script positions qs done
+  listed_continues qs done gave k q d e f = let on = listed_follow qs done gave k q d e f in (on.0, on.1, inl on.2)
 
   pub listed_can : FitsRun script → CanContinue next steps words most valid script positions ps
   listed_can limits qs done gave = (
@@ -88,7 +96,11 @@ module _ (script : Script) (positions : List ℕ) (ps : List Listed) (limits : F
   lists_can = listed_can listed_next listed_steps listed_words listed_most listed_valid (λ p. p.commands.now) (λ p. p.position) (λ p. refl)
       (λ p q r s. (ap (λ b. b.now) s.0, s.1)) script positions ps (λ k p e. ((are.each k p e).0, (are.each k p e).1)) limits
 
+  pub lists_follow : (qs : List Listed) (done : List (List Done)) → GaveEach listed_next listed_steps listed_words listed_most listed_valid ps qs done →
+      FollowDone listed_next script positions qs done
+  lists_follow = listed_follow listed_next listed_steps listed_words listed_most listed_valid (λ p. p.commands.now) (λ p. p.position) (λ p. refl)
+      (λ p q r s. (ap (λ b. b.now) s.0, s.1)) script positions ps (λ k p e. ((are.each k p e).0, (are.each k p e).1))
+
   pub lists_continue : (qs : List Listed) (done : List (List Done)) → GaveEach listed_next listed_steps listed_words listed_most listed_valid ps qs done →
       Continues listed_next script positions qs done
-  lists_continue = listed_continues listed_next listed_steps listed_words listed_most listed_valid (λ p. p.commands.now) (λ p. p.position) (λ p. refl)
-      (λ p q r s. (ap (λ b. b.now) s.0, s.1)) script positions ps (λ k p e. ((are.each k p e).0, (are.each k p e).1))
+  lists_continue qs done gave k q d e f = let on = lists_follow qs done gave k q d e f in (on.0, on.1, inl on.2)

@@ -1,11 +1,11 @@
 -- A run of the programs of a script, as lists of commands, is a run of the script. They may be run if the script may.
-use Rattle.nmgc_cycle.proofs.Vocabulary.{ℕ, zero, suc, ◌≡◌, ◌⊎◌, ◌+◌, ◌<◌, ◌≤◌, ◌++◌, ◌∙◌, List, [], ◌∷◌, map, drop, length, slice_get, slice_index_or, Option, None, Some, refl, sym, ap, subst, arith, inl, inr, append-nil, append_assoc, length-append, length-map, drop_at, option_to_list, Command, Reply, Done, Script, Layout, Plan, Run, State, plan_of, layout_of, last_state, answer_of, program_of, longer, longer_plan, longer_state, longer_run, MayGoOn, layout_longer, runs_are_of_longer, left_is_determined, answered_count, lawful_are_of_runs, RoundRows, Report, IsRun, IsRunOf, FitsRun, Follows, Continues, AreListed, MayRun, most_total, sum_by, sum_by-cons, replicate, get_or-replicate, slice_get_within, in_limits_fit, threads_few, total_few, segments_few, threads_of, script_of, all_replies, replies_to}
+use Rattle.nmgc_cycle.proofs.Vocabulary.{ℕ, zero, suc, ◌≡◌, ◌⊎◌, ◌+◌, ◌<◌, ◌≤◌, ◌++◌, ◌∙◌, List, [], ◌∷◌, map, drop, length, slice_get, slice_index_or, Option, None, Some, refl, sym, ap, subst, arith, inl, inr, append-nil, append_assoc, length-append, length-map, drop_at, option_to_list, Command, Reply, Done, Script, Layout, Plan, Run, State, plan_of, layout_of, last_state, answer_of, program_of, longer, longer_plan, longer_state, longer_run, MayGoOn, layout_longer, runs_are_of_longer, left_is_determined, answered_count, lawful_are_of_runs, RoundRows, Report, IsRun, IsRunOf, FitsRun, Follows, AreListed, MayRun, most_total, sum_by, sum_by-cons, replicate, get_or-replicate, slice_get_within, in_limits_fit, threads_few, total_few, segments_few, threads_of, script_of, all_replies, replies_to}
 use Rattle.nmgc_run_spec.specs.Lawful.{IsLawful, HoldsAtEnd}
 use Rattle.nmgc_run_laws.specs.laws.Longer.{rows_are_of_longer, answering}
 use Rattle.nmgc_script.specs.{Parts.total_words, Spelling.IsInLimits, Spelling.version_3}
 use Rattle.nmgc_mutator.specs.declared.program.Listed.{Listed}
 use Rattle.nmgc_cycle.specs.{ScriptRuns.ListsRunAsScripts}
-use Rattle.nmgc_cycle.proofs.{rounds.LongerRuns.may_each, rounds.ListedRounds.listed_next, rounds.ListedRounds.listed_steps, rounds.ListedRounds.listed_words, rounds.ListedRounds.listed_most, rounds.ListedRounds.listed_valid, rounds.ListedRounds.lists_continue, rounds.SoFar.thread_at, lists.Plans.good_plan}
+use Rattle.nmgc_cycle.proofs.{rounds.LongerRuns.may_each, rounds.ListedRounds.listed_next, rounds.ListedRounds.listed_steps, rounds.ListedRounds.listed_words, rounds.ListedRounds.listed_most, rounds.ListedRounds.listed_valid, rounds.ListedRounds.FollowDone, rounds.ListedRounds.lists_follow, rounds.SoFar.thread_at, lists.Plans.good_plan}
 
 -- the number of commands of a mutator that the rounds answered is the number of its replies
 answered_is : (rounds : List RoundRows) (k : ℕ) → answered_count rounds k ≡ length (all_replies rounds k)
@@ -61,7 +61,7 @@ module _ {P : Type 0} (next : P → Option Command) where
 -- a report for the commands that programs gave is a report for each script that goes on from there as the programs do
 module _ {P : Type 0} (next : P → Option Command) (steps : P → Reply → P → Type 0) (script : Script) (limits : FitsRun script) (after : List P)
     (report : Report) (given : List (List Done)) (count : length given ≡ length script.threads) (many : length after ≡ length script.threads)
-    (on : Continues next script [] after given) (run : IsRunOf (script_of next script.config given after) report)
+    (on : FollowDone next script [] after given) (run : IsRunOf (script_of next script.config given after) report)
     (replies : (k : ℕ) (d : List Done) → slice_get given k ≡ Some d → all_replies report.rounds k ≡ replies_to d) where
   found : (more : List (List Command)) × (longer (threads_of next given after) more ≡ script.threads) × ((k : ℕ) → NoneOrWaits next after given more k)
   found = all_more next script.threads given after count many on
@@ -130,7 +130,7 @@ module _ {P : Type 0} (next : P → Option Command) (steps : P → Reply → P �
 pub lists_are_scripts : ListsRunAsScripts listed_next listed_steps listed_words listed_most listed_valid
 lists_are_scripts script before after report limits are h =
     is_run_of listed_next listed_steps script limits after report h.given (h.gave.count ∙ are.count) (h.gave.programs ∙ are.count)
-    (lists_continue script [] before limits are after h.given h.gave) h.run h.replies
+    (lists_follow script [] before limits are after h.given h.gave) h.run h.replies
 
 -- The programs of a script, as lists from their beginnings, may be run
 

@@ -436,7 +436,7 @@ module _ {P : Type 0} (next : P → Option Command) (steps : P → Reply → P �
                 ∙ append_assoc (map (λ (x : Done). x.0) g.0) (map (λ (x : Done). x.0) d) (option_to_list (next q)))
                 ∙ drop_at (map (λ (x : Done). x.0) g.0) (map (λ (x : Done). x.0) d ++ option_to_list (next q)) (slice_index positions k)
                 (length-map g.0 (λ (x : Done). x.0) ∙ sym start),
-            follows_waiting (next q),
+            inl (follows_waiting (next q)),
           )
 
       -- the longer script fits a run

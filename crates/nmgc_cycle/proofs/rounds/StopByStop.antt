@@ -21,7 +21,8 @@ pub record HandsRowsOn (old new : ProgramRun) (stop : Option StopRow) (none cycl
   pub row : StopRow
   pub stops : new.collector.rows.stops ≡ old.collector.rows.stops ++ row ∷ []
   pub stop_is : stop ≡ Some row
-  pub hands : HandsOn old.collector.rows.cycles new.collector.rows.cycles none cycles
+  pub number : row.number ≡ length old.collector.rows.stops
+  pub hands : HandsOn (length old.collector.rows.stops) old.collector.rows.cycles new.collector.rows.cycles none cycles
   pub none_is : none ≡ []
 
 -- the facts of a round that its events need
@@ -34,7 +35,7 @@ module _ {J : Type 0} (steps : J → Event → J → Type 0) where
   pub stop_on : (old new : ProgramRun) (stop : Option StopRow) (none cycles : List CycleRow) (m q : J) → HandsRowsOn old new stop none cycles →
       ObservedStop steps m stop (map report_row cycles) q → ObservedFrom steps old.collector m new.collector false q
   stop_on old new stop none cycles m q h step =
-      observed_stop steps m q old.collector new.collector h.row stop none cycles h.none_is h.stop_is h.rounds h.stops h.hands step
+      observed_stop steps m q old.collector new.collector h.row stop none cycles h.none_is h.stop_is h.number h.rounds h.stops h.hands step
 
   pub round_on : (old stopped new : ProgramRun) (rows : RoundRows) (p m q : J) → ObservedFrom steps old.collector p stopped.collector false m → HandsRoundOn stopped new rows →
       steps m (event.Round rows) q → ObservedFrom steps old.collector p new.collector true q
@@ -74,7 +75,7 @@ module _ {J P : Type 0} (steps fails : J → Event → J → Type 0) (next : P �
     -- at the stop's event
     pub event_gave_up : (p q : J) → FailedStop fails p stop (map report_row cycles) q → ObservedSince steps fails next replies words most valid old before before p q
     event_gave_up p q failed = given_up old before p q refl (last_failed new.collector false stopped
-        (failed_stop steps fails p q old.collector new.collector h.row stop none cycles h.none_is h.stop_is h.rounds h.stops h.hands failed)) none_since (inl refl)
+        (failed_stop steps fails p q old.collector new.collector h.row stop none cycles h.none_is h.stop_is h.number h.rounds h.stops h.hands failed)) none_since (inl refl)
 
     -- in the round
     pub round_gave_up : (after : List P) (p q : J) → ObservedFrom steps old.collector p new.collector false q → GaveSome next replies words most valid before after →

@@ -1,7 +1,7 @@
 -- An observer's events from a stop on: a stop or a round more, and one part after another.
-use Rattle.nmgc_cycle.proofs.Vocabulary.{◌≡◌, List, [], ◌∷◌, ◌++◌, map, Bool, true, false, Option, Some, refl, sym, ap, subst, ◌∙◌, append-nil, append_assoc, map-append, CycleRow, RoundRows, StopRow, Script, Collector, report_row, report_cycles, Event, AlternateFrom, AreEventsFrom, FailedFrom, FailedStop, HandsOn, ObservedFrom, ObservedRest, ObservedStop, cycles_in, each_further, last_failed, rounds_in, stop_follows, stops_in}
+use Rattle.nmgc_cycle.proofs.Vocabulary.{◌≡◌, arith, length, length-append, List, [], ◌∷◌, ◌++◌, map, Bool, true, false, Option, Some, refl, sym, ap, subst, ◌∙◌, append-nil, append_assoc, CycleRow, RoundRows, StopRow, Script, Collector, report_row, report_cycles, Event, AlternateFrom, AreEventsFrom, AreNumbered, FailedFrom, FailedStop, HandsOn, ObservedFrom, ObservedRest, ObservedStop, cycles_in, each_further, last_failed, rounds_in, stop_follows, stops_in}
 use Rattle.nmgc_cycle.specs.declared.observer.Event.TheVariants as event
-use Rattle.nmgc_cycle.specs.laws.Events.{alternate_on, cycles_on, follows_on, observed_on, rounds_on, stops_on}
+use Rattle.nmgc_cycle.specs.laws.Events.{alternate_on, cycles_on, follows_on, numbered_on, observed_on, rounds_on, stop_further, stops_on}
 
 -- events between two collectors; `from` says whether a stop comes first
 pub record AreFurther (from : Bool) (old new : Collector) (stop : Bool) (events : List Event) : Type 0 where
@@ -10,12 +10,13 @@ pub record AreFurther (from : Bool) (old new : Collector) (stop : Bool) (events 
   pub cycles : report_cycles new ≡ report_cycles old ++ cycles_in events
   pub alternate : AlternateFrom from events
   pub next : stop_follows from events ≡ stop
+  pub numbered : AreNumbered (length old.rows.stops) events
 
 pub events_from : (old new : Collector) (stop : Bool) (events : List Event) → AreFurther true old new stop events → AreEventsFrom old new stop events
-events_from old new stop events h = record { rounds = h.rounds; stops = h.stops; cycles = h.cycles; alternate = h.alternate; next = h.next }
+events_from old new stop events h = record { rounds = h.rounds; stops = h.stops; cycles = h.cycles; alternate = h.alternate; next = h.next; numbered = h.numbered }
 
 pub from_events : (old new : Collector) (stop : Bool) (events : List Event) → AreEventsFrom old new stop events → AreFurther true old new stop events
-from_events old new stop events h = record { rounds = h.rounds; stops = h.stops; cycles = h.cycles; alternate = h.alternate; next = h.next }
+from_events old new stop events h = record { rounds = h.rounds; stops = h.stops; cycles = h.cycles; alternate = h.alternate; next = h.next; numbered = h.numbered }
 
 -- no events
 pub no_further : (c : Collector) → AreEventsFrom c c true []
@@ -25,21 +26,7 @@ no_further c = record {
   cycles = sym (append-nil (report_cycles c));
   alternate = tt;
   next = refl;
-}
-
--- a stop
-pub stop_further : (old new : Collector) (row : StopRow) (none cycles : List CycleRow) → none ≡ [] → new.rows.rounds ≡ old.rows.rounds →
-    new.rows.stops ≡ old.rows.stops ++ row ∷ [] → HandsOn old.rows.cycles new.rows.cycles none cycles →
-    AreEventsFrom old new false (event.Stop row (map report_row cycles) ∷ [])
-stop_further old new row none cycles empty rounds stops hands = record {
-  rounds = rounds ∙ sym (append-nil old.rows.rounds);
-  stops = stops;
-  cycles = ap (λ (l : List CycleRow). map report_row l) hands.1
-      ∙ map-append report_row old.rows.cycles hands.0
-      ∙ ap (λ (l : List CycleRow). report_cycles old ++ map report_row l) (sym (hands.2 ∙ ap (λ (l : List CycleRow). l ++ hands.0) empty))
-      ∙ ap (λ (l : List CycleRow). report_cycles old ++ l) (sym (append-nil (map report_row cycles)));
-  alternate = (refl, tt);
-  next = refl;
+  numbered = tt;
 }
 
 -- a round
@@ -51,6 +38,7 @@ round_further old new rows rounds stops cycles = record {
   cycles = ap (λ (l : List CycleRow). map report_row l) cycles ∙ sym (append-nil (report_cycles old));
   alternate = (refl, tt);
   next = refl;
+  numbered = tt;
 }
 
 -- one part after another
@@ -65,6 +53,10 @@ both_further from between stop old mid new first more h m = record {
       ∙ ap (λ (l : List CycleRow). report_cycles old ++ l) (sym (cycles_on first more));
   alternate = alternate_on from first more h.alternate (subst (λ (s : Bool). AlternateFrom s more) (sym h.next) m.alternate);
   next = follows_on from first more ∙ ap (λ (s : Bool). stop_follows s more) h.next ∙ m.next;
+  numbered =
+      let same = ap (λ (l : List StopRow). length l) h.stops in
+      let sum = length-append old.rows.stops (stops_in first) in
+      numbered_on (length old.rows.stops) (length mid.rows.stops) first more (omega (arith, same, sum)) h.numbered m.numbered;
 }
 
 -- events from a stop on, with a round more
@@ -84,14 +76,15 @@ events_further old mid new stop first more h m = events_from old new stop (first
 module _ {J : Type 0} (steps : J → Event → J → Type 0) where
   -- the observer was given a stop
   pub observed_stop : (p q : J) (old new : Collector) (row : StopRow) (stop : Option StopRow) (none cycles : List CycleRow) → none ≡ [] → stop ≡ Some row →
-      new.rows.rounds ≡ old.rows.rounds → new.rows.stops ≡ old.rows.stops ++ row ∷ [] → HandsOn old.rows.cycles new.rows.cycles none cycles →
+      row.number ≡ length old.rows.stops → new.rows.rounds ≡ old.rows.rounds → new.rows.stops ≡ old.rows.stops ++ row ∷ [] →
+      HandsOn (length old.rows.stops) old.rows.cycles new.rows.cycles none cycles →
       ObservedStop steps p stop (map report_row cycles) q → ObservedFrom steps old p new false q
-  observed_stop p q old new row stop none cycles empty is rounds stops hands f =
+  observed_stop p q old new row stop none cycles empty is number rounds stops hands f =
       let reported : List CycleRow = map report_row cycles in
       let step : steps p (event.Stop row reported) q = subst (λ (s : Option StopRow). ObservedStop steps p s reported q) is f in (
         event.Stop row reported ∷ [],
         (q, step, refl),
-        stop_further old new row none cycles empty rounds stops hands,
+        stop_further old new row none cycles empty number rounds stops hands,
       )
 
   -- and in the round after it
@@ -112,9 +105,9 @@ module _ {J : Type 0} (steps : J → Event → J → Type 0) where
 
   -- the observer failed at a stop, or in the round after it
   pub failed_stop : (fails : J → Event → J → Type 0) (p q : J) (old new : Collector) (row : StopRow) (stop : Option StopRow) (none cycles : List CycleRow) →
-      none ≡ [] → stop ≡ Some row → new.rows.rounds ≡ old.rows.rounds → new.rows.stops ≡ old.rows.stops ++ row ∷ [] →
-      HandsOn old.rows.cycles new.rows.cycles none cycles → FailedStop fails p stop (map report_row cycles) q → FailedFrom steps fails old p new false q
-  failed_stop fails p q old new row stop none cycles empty is rounds stops hands f =
+      none ≡ [] → stop ≡ Some row → row.number ≡ length old.rows.stops → new.rows.rounds ≡ old.rows.rounds → new.rows.stops ≡ old.rows.stops ++ row ∷ [] →
+      HandsOn (length old.rows.stops) old.rows.cycles new.rows.cycles none cycles → FailedStop fails p stop (map report_row cycles) q → FailedFrom steps fails old p new false q
+  failed_stop fails p q old new row stop none cycles empty is number rounds stops hands f =
       let reported : List CycleRow = map report_row cycles in
       let e : Some f.0 ≡ Some row = sym f.1 ∙ is in
       let same : f.0 ≡ row = cc in (
@@ -123,7 +116,7 @@ module _ {J : Type 0} (steps : J → Event → J → Type 0) where
         event.Stop row reported,
         refl,
         subst (λ (x : StopRow). fails p (event.Stop x reported) q) same f.2,
-        stop_further old new row none cycles empty rounds stops hands,
+        stop_further old new row none cycles empty number rounds stops hands,
       )
 
   pub failed_round : (fails : J → Event → J → Type 0) (p m q : J) (old mid new : Collector) (rows : RoundRows) → ObservedFrom steps old p mid false m →

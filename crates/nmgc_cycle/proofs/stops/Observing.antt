@@ -1,45 +1,14 @@
 -- An observer's events, one part after another: a stop or a round more, and the rows that were kept.
-use Rattle.nmgc_cycle.proofs.Vocabulary.{Err, Ok, OnErr, Result, ◌≡◌, List, [], ◌∷◌, ◌++◌, map, Bool, true, false, Option, Some, All, All-tail, refl, sym, ap, subst, ◌∙◌, append-nil, append_assoc, map-append, CycleRow, RoundRows, StopRow, End, MutatorEnd, Name, names_of, ends_of, Script, Collector, StopEnd, HasAnswered, HasStopped, IsFresh, HasNamesOnce, report_row, report_cycles, report_of, seen, Event, KeptRows, AreEventsOf, FailedRun, FailedStop, HandsOn, KeepsEvent, Observed, ObservedRun, ObservedStop, cycles_in, rounds_in, stops_in}
+use Rattle.nmgc_cycle.proofs.Vocabulary.{length, Err, Ok, OnErr, Result, ◌≡◌, List, [], ◌∷◌, ◌++◌, map, Bool, true, false, Option, Some, All, All-tail, refl, sym, ap, subst, ◌∙◌, append-nil, append_assoc, CycleRow, RoundRows, StopRow, End, MutatorEnd, Name, names_of, ends_of, Script, Collector, StopEnd, HasAnswered, HasStopped, IsFresh, HasNamesOnce, report_row, report_cycles, report_of, seen, Event, KeptRows, FailedRun, FailedStop, HandsOn, KeepsEvent, Observed, ObservedRun, ObservedStop, cycles_in, rounds_in, stops_in}
 use Rattle.nmgc_cycle.specs.declared.observer.Event.TheVariants as event
 use Rattle.nmgc_cycle.specs.declared.stop.StopEnd.TheVariants as answer
-use Rattle.nmgc_cycle.specs.laws.Events.{alternate_on, cycles_on, follows_on, observed_on, rounds_on, stops_on}
+use Rattle.nmgc_cycle.specs.laws.Events.{observed_on, round_events, stop_events}
 use Rattle.nmgc_cycle.proofs.{stops.Censuses.names_stopped, stops.Reported.same_parts}
 
 -- a fact that holds after an error
 pub any_err : {T E P : Type 0} (r : Result T E) → P → OnErr r P
 any_err (Ok x) p = tt
 any_err (Err e) p = p
-
--- the events with a stop more
-pub stop_events : (events : List Event) (old new : Collector) (row : StopRow) (none cycles : List CycleRow) → AreEventsOf old true events → none ≡ [] →
-    new.rows.rounds ≡ old.rows.rounds → new.rows.stops ≡ old.rows.stops ++ row ∷ [] → HandsOn old.rows.cycles new.rows.cycles none cycles →
-    AreEventsOf new false (events ++ event.Stop row (map report_row cycles) ∷ [])
-stop_events events old new row none cycles h empty rounds stops hands =
-    let reported : List CycleRow = map report_row cycles in
-    let one : List Event = event.Stop row reported ∷ [] in record {
-      rounds = rounds_on events one ∙ append-nil (rounds_in events) ∙ h.rounds ∙ sym rounds;
-      stops = stops_on events one ∙ ap (λ (l : List StopRow). l ++ row ∷ []) h.stops ∙ sym stops;
-      cycles = cycles_on events one ∙ ap (λ (l : List CycleRow). cycles_in events ++ l) (append-nil reported)
-          ∙ ap (λ (l : List CycleRow). cycles_in events ++ map report_row l) (hands.2 ∙ ap (λ (l : List CycleRow). l ++ hands.0) empty)
-          ∙ ap (λ (l : List CycleRow). l ++ map report_row hands.0) h.cycles
-          ∙ sym (map-append report_row old.rows.cycles hands.0)
-          ∙ ap (λ (l : List CycleRow). map report_row l) (sym hands.1);
-      alternate = alternate_on true events one h.alternate (h.next, tt);
-      next = follows_on true events one;
-    }
-
--- and with a round more
-pub round_events : (events : List Event) (old new : Collector) (rows : RoundRows) → AreEventsOf old false events →
-    new.rows.rounds ≡ old.rows.rounds ++ rows ∷ [] → new.rows.stops ≡ old.rows.stops → new.rows.cycles ≡ old.rows.cycles →
-    AreEventsOf new true (events ++ event.Round rows ∷ [])
-round_events events old new rows h rounds stops cycles =
-    let one : List Event = event.Round rows ∷ [] in record {
-      rounds = rounds_on events one ∙ ap (λ (l : List RoundRows). l ++ rows ∷ []) h.rounds ∙ sym rounds;
-      stops = stops_on events one ∙ append-nil (stops_in events) ∙ h.stops ∙ sym stops;
-      cycles = cycles_on events one ∙ append-nil (cycles_in events) ∙ h.cycles ∙ ap (λ (l : List CycleRow). map report_row l) (sym cycles);
-      alternate = alternate_on true events one h.alternate (h.next, tt);
-      next = follows_on true events one;
-    }
 
 module _ {J : Type 0} (steps : J → Event → J → Type 0) where
   pub observed_one : (p q : J) (e : Event) → steps p e q → Observed steps p (e ∷ []) q
@@ -51,19 +20,19 @@ module _ {J : Type 0} (steps : J → Event → J → Type 0) where
       let nothing = fresh.new.nothing in (
         [],
         refl,
-        record { rounds = sym nothing.0; stops = sym nothing.1; cycles = sym nothing.2; alternate = tt; next = refl },
+        record { rounds = sym nothing.0; stops = sym nothing.1; cycles = sym nothing.2; alternate = tt; next = refl; numbered = tt },
       )
 
   -- one stop more
   pub stop_observed : (p m q : J) (old new : Collector) (row : StopRow) (stop : Option StopRow) (none cycles : List CycleRow) →
-      ObservedRun steps p old true m → none ≡ [] → stop ≡ Some row → new.rows.rounds ≡ old.rows.rounds → new.rows.stops ≡ old.rows.stops ++ row ∷ [] →
-      HandsOn old.rows.cycles new.rows.cycles none cycles → ObservedStop steps m stop (map report_row cycles) q → ObservedRun steps p new false q
-  stop_observed p m q old new row stop none cycles h empty is rounds stops hands f =
+      ObservedRun steps p old true m → none ≡ [] → stop ≡ Some row → row.number ≡ length old.rows.stops → new.rows.rounds ≡ old.rows.rounds → new.rows.stops ≡ old.rows.stops ++ row ∷ [] →
+      HandsOn (length old.rows.stops) old.rows.cycles new.rows.cycles none cycles → ObservedStop steps m stop (map report_row cycles) q → ObservedRun steps p new false q
+  stop_observed p m q old new row stop none cycles h empty is number rounds stops hands f =
       let reported : List CycleRow = map report_row cycles in
       let step : steps m (event.Stop row reported) q = subst (λ (s : Option StopRow). ObservedStop steps m s reported q) is f in (
         h.0 ++ event.Stop row reported ∷ [],
         observed_on steps p m q h.0 (event.Stop row reported ∷ []) h.1 (observed_one m q (event.Stop row reported) step),
-        stop_events h.0 old new row none cycles h.2 empty rounds stops hands,
+        stop_events h.0 old new row none cycles h.2 empty number rounds stops hands,
       )
 
   -- one round more
@@ -78,9 +47,9 @@ module _ {J : Type 0} (steps : J → Event → J → Type 0) where
 
   -- a stop and a round at which the observer failed
   pub stop_failed : (fails : J → Event → J → Type 0) (p m q : J) (old new : Collector) (row : StopRow) (stop : Option StopRow) (none cycles : List CycleRow) →
-      ObservedRun steps p old true m → none ≡ [] → stop ≡ Some row → new.rows.rounds ≡ old.rows.rounds → new.rows.stops ≡ old.rows.stops ++ row ∷ [] →
-      HandsOn old.rows.cycles new.rows.cycles none cycles → FailedStop fails m stop (map report_row cycles) q → FailedRun steps fails p new false q
-  stop_failed fails p m q old new row stop none cycles h empty is rounds stops hands f =
+      ObservedRun steps p old true m → none ≡ [] → stop ≡ Some row → row.number ≡ length old.rows.stops → new.rows.rounds ≡ old.rows.rounds → new.rows.stops ≡ old.rows.stops ++ row ∷ [] →
+      HandsOn (length old.rows.stops) old.rows.cycles new.rows.cycles none cycles → FailedStop fails m stop (map report_row cycles) q → FailedRun steps fails p new false q
+  stop_failed fails p m q old new row stop none cycles h empty is number rounds stops hands f =
       let reported : List CycleRow = map report_row cycles in
       let e : Some f.0 ≡ Some row = sym f.1 ∙ is in
       let same : f.0 ≡ row = cc in (
@@ -89,7 +58,7 @@ module _ {J : Type 0} (steps : J → Event → J → Type 0) where
         event.Stop row reported,
         h.1,
         subst (λ (x : StopRow). fails m (event.Stop x reported) q) same f.2,
-        stop_events h.0 old new row none cycles h.2 empty rounds stops hands,
+        stop_events h.0 old new row none cycles h.2 empty number rounds stops hands,
       )
 
   pub round_failed : (fails : J → Event → J → Type 0) (p m q : J) (old new : Collector) (rows : RoundRows) → ObservedRun steps p old false m →
@@ -110,7 +79,7 @@ stopped_any script c (answer.HeapFull free reserve) h = h.0
 
 -- the rows that a stop hands on have no name twice
 pub once_handed : (script : Script) (old new : Collector) (end : StopEnd) (before after : List CycleRow) → HasAnswered script new end →
-    HandsOn old.rows.cycles new.rows.cycles before after → before ≡ [] → All HasNamesOnce after
+    HandsOn (length old.rows.stops) old.rows.cycles new.rows.cycles before after → before ≡ [] → All HasNamesOnce after
 once_handed script old new end before after answered hands none =
     subst (λ (l : List CycleRow). All HasNamesOnce l) (sym (hands.2 ∙ ap (λ (l : List CycleRow). l ++ hands.0) none))
     (all_right HasNamesOnce old.rows.cycles hands.0 (subst (λ (l : List CycleRow). All HasNamesOnce l) hands.1

@@ -40,8 +40,8 @@ returns-clause-full g c =
     }
 
 pub returns-clause-handed : goal.returns-clause-handed
-returns-clause-handed g c = handed_twice c.args.self.now.rows.cycles c.finish_cycle.new.self.rows.cycles c.finish_cycle-2.new.self.rows.cycles
+returns-clause-handed g c = handed_twice c.args.stop c.args.self.now.rows.cycles c.finish_cycle.new.self.rows.cycles c.finish_cycle-2.new.self.rows.cycles
     c.args.rows.now c.finish_cycle.new.rows c.finish_cycle-2.new.rows c.in_ok-finish_cycle.ensures.handed
-    (handed_after (record c.finish_cycle.new.self { heap = record c.finish_cycle.new.self.heap { segments = c.retire_all.new.self } }) c.start.new.self
+    (handed_after c.args.stop (record c.finish_cycle.new.self { heap = record c.finish_cycle.new.self.heap { segments = c.retire_all.new.self } }) c.start.new.self
     c.finish_cycle-2.new.self c.finish_cycle.new.rows c.finish_cycle-2.new.rows (starts_same c.args.stop _ c.start.new.self c.in_ok-start.ensures)
     c.in_ok-finish_cycle-2.ensures.handed)

@@ -1,4 +1,4 @@
-use Rattle.nmgc_cycle.proofs.{Vocabulary.◌≡◌, Vocabulary.List, Vocabulary.length, Vocabulary.arith, Vocabulary.refl, Vocabulary.sym, Vocabulary.ap, Vocabulary.subst, Vocabulary.◌∙◌, Vocabulary.inl, Vocabulary.inr, Vocabulary.true, Vocabulary.false, Vocabulary.same_true, Vocabulary.same_false, Vocabulary.reserve_count, Vocabulary.the_type, Vocabulary.Idle, Vocabulary.StopRow, Vocabulary.RoundRows, Vocabulary.StopEnd, Vocabulary.Collector, Vocabulary.seen, stops.AddingLeads.can_add, stops.Begins.begins, stops.Counted.stop_counts, stops.Counted.stop_counts_upper, stops.Handing.count_is, stops.Handing.handed_after, stops.Handing.handed_twice, lengths.Few.stop_fits, rounds.InboxOn.lines_of, stops.MarksOn.marks_on, starts.NewStops.stopped_in, lists.Plans.is_runnable, lists.Plans.sound_state, Vocabulary.ℕ, Vocabulary.◌↔◌, Vocabulary.IsTrue, Vocabulary.SomeIsLeft, Vocabulary.ProceedsThen, stops.StopEnds.IsStepped, stops.StopEnds.IsRead, stops.StopEnds.Why, stops.StopEnds.row, stops.StopEnds.some_left_then, stops.StopEnds.rounds_are, stops.StopEnds.stops_are, stops.StopEnds.has_answered, stops.StopEnds.stops_after, stops.StopEnds.done_where, stops.StopEnds.full_where, stops.Tried.stop_turns, collector.Collector.do_stop.Given.Over, collector.Collector.do_stop.Goals.then-left+then-free-reserve, collector.Collector.do_stop.Goals.else-left+then-not-left+then-eq, collector.Collector.do_stop.Goals.else-left-via-then-left+else-free-reserve, collector.Collector.do_stop.Goals.else-left-via-else-left, collector.Collector.do_stop.Goals.else-left+else-not-left, collector.Collector.do_stop.Goals.else-not-left-via-then-not-left+else-eq, collector.Collector.do_stop.Goals.else-not-left-via-else-not-left}
+use Rattle.nmgc_cycle.proofs.{Vocabulary.◌≡◌, Vocabulary.List, Vocabulary.length, Vocabulary.arith, Vocabulary.refl, Vocabulary.sym, Vocabulary.ap, Vocabulary.subst, Vocabulary.◌∙◌, Vocabulary.inl, Vocabulary.inr, Vocabulary.true, Vocabulary.false, Vocabulary.same_true, Vocabulary.same_false, Vocabulary.reserve_count, Vocabulary.the_type, Vocabulary.Idle, Vocabulary.StopRow, Vocabulary.RoundRows, Vocabulary.StopEnd, Vocabulary.Collector, Vocabulary.Script, Vocabulary.FitsRun, Vocabulary.CanStop, Vocabulary.HandsOn, Vocabulary.seen, stops.AddingLeads.can_add, stops.Begins.begins, stops.Counted.stop_counts, stops.Counted.stop_counts_upper, stops.Handing.count_is, stops.Handing.handed_after, stops.Handing.handed_twice, lengths.Few.stop_fits, rounds.InboxOn.lines_of, stops.MarksOn.marks_on, starts.NewStops.stopped_in, lists.Plans.is_runnable, lists.Plans.sound_state, Vocabulary.ℕ, Vocabulary.◌↔◌, Vocabulary.IsTrue, Vocabulary.SomeIsLeft, Vocabulary.ProceedsThen, stops.StopEnds.IsStepped, stops.StopEnds.IsRead, stops.StopEnds.Why, stops.StopEnds.row, stops.StopEnds.some_left_then, stops.StopEnds.rounds_are, stops.StopEnds.stops_are, stops.StopEnds.has_answered, stops.StopEnds.stops_after, stops.StopEnds.done_where, stops.StopEnds.full_where, stops.Tried.stop_turns, collector.Collector.do_stop.Given.Over, collector.Collector.do_stop.Goals.then-left+then-free-reserve, collector.Collector.do_stop.Goals.else-left+then-not-left+then-eq, collector.Collector.do_stop.Goals.else-left-via-then-left+else-free-reserve, collector.Collector.do_stop.Goals.else-left-via-else-left, collector.Collector.do_stop.Goals.else-left+else-not-left, collector.Collector.do_stop.Goals.else-not-left-via-then-not-left+else-eq, collector.Collector.do_stop.Goals.else-not-left-via-else-not-left}
 use Rattle.nmgc_cycle.specs.declared.stop.StopEnd.TheVariants as answer
 use Rattle.nmgc_cycle.proofs.stops.AfterPromotion as after
 use Rattle.nmgc_cycle.proofs.stops.StopSteps as steps
@@ -174,14 +174,19 @@ returns-clause-stops g c = (
   stops_are c.a_stop_leads.ensures c.args.script.now.value c.args.self.now c.do_due_cycle.new.self c.requires.limits (stepped g c) (read g c)
       c.in_ok-promoted.promoted c.in_ok-promoted.ensures.many c.note.new.self c.end_of_answer-self.result c.note.ensures c.requires.can,
   refl,
+  count_is (length c.args.self.now.rows.stops) c.count-number.result c.count-number.ensures (stop_fits c.args.script.now.value c.args.self.now c.requires.limits c.requires.can).number,
 )
 
 pub returns-clause-cycles : goal.returns-clause-cycles
-returns-clause-cycles g c = handed_twice c.args.self.now.rows.cycles c.try_end.new.self.rows.cycles c.do_due_cycle.new.self.rows.cycles
+returns-clause-cycles g c =
+    let n = c.count-number.result in
+    subst (λ (stop : ℕ). HandsOn stop c.args.self.now.rows.cycles c.do_due_cycle.new.self.rows.cycles c.args.rows.now.cycles c.do_due_cycle.new.rows)
+    (count_is (length c.args.self.now.rows.stops) c.count-number.result c.count-number.ensures (stop_fits c.args.script.now.value c.args.self.now c.requires.limits c.requires.can).number)
+    (handed_twice n c.args.self.now.rows.cycles c.try_end.new.self.rows.cycles c.do_due_cycle.new.self.rows.cycles
     c.args.rows.now.cycles c.try_end.new.rows c.do_due_cycle.new.rows
-    (handed_after c.args.self.now c.try_close.new.self c.try_end.new.self c.args.rows.now.cycles c.try_end.new.rows
+    (handed_after n c.args.self.now c.try_close.new.self c.try_end.new.self c.args.rows.now.cycles c.try_end.new.rows
     (ap (λ (x : Collector). x.rows.cycles) c.try_close.ensures.rest ∙ ap (λ (x : Collector). x.rows.cycles) c.add_remembered.ensures.rest ∙
-    ap (λ (x : Collector). x.rows.cycles) c.in_ok-promoted.ensures.promoted.rest) c.in_ok-try_end.ensures.handed) c.in_ok-do_due_cycle.ensures.handed
+    ap (λ (x : Collector). x.rows.cycles) c.in_ok-promoted.ensures.promoted.rest) c.in_ok-try_end.ensures.handed) c.in_ok-do_due_cycle.ensures.handed)
 
 pub returns-clause-mutator_turns : goal.returns-clause-mutator_turns
 unfolding stepped
@@ -203,3 +208,88 @@ returns-clause-positions g c = ap (λ (x : List RoundRows × List StopRow × Lis
     c.do_due_cycle.new.self c.in_ok-do_due_cycle.ensures.proceeds ∙ steps.ended_reported c.a_stop_leads.ensures c.args.script.now.value c.args.self.now c.promote.new.self c.requires.limits c.requires.can
     c.in_ok-promoted.ensures.promoted c.in_ok-promoted.ensures.listed c.add_remembered.new.self c.add_remembered.ensures c.count-number.result
     (count_is (length c.args.self.now.rows.stops) c.count-number.result c.count-number.ensures (stop_fits c.args.script.now.value c.args.self.now c.requires.limits c.requires.can).number) c.try_close.new.self c.try_close.ensures c.try_end.new.self c.in_ok-try_end.ensures.ends)
+
+-- the same for every script for which the stop could be done
+
+module _ (g : Over) (c : goal.After-self-1 g) (s : Script) (limits : FitsRun s) (same : c.args.trigger ≡ s.config.trigger)
+    (left : IsTrue c.args.left ↔ SomeIsLeft s.threads c.args.self.now.positions.items) (can : CanStop s c.args.self.now) where
+  left_at_end_by : IsTrue c.args.left ↔ SomeIsLeft s.threads c.try_end.new.self.positions.items
+  left_at_end_by = subst (λ (l : List ℕ). IsTrue c.args.left ↔ SomeIsLeft s.threads l)
+      (sym (ap (λ (x : List RoundRows × List StopRow × List ℕ). x.2) (steps.ended_reported c.a_stop_leads.ensures s c.args.self.now c.promote.new.self limits can
+      c.in_ok-promoted.ensures.promoted c.in_ok-promoted.ensures.listed c.add_remembered.new.self c.add_remembered.ensures c.count-number.result
+      (count_is (length c.args.self.now.rows.stops) c.count-number.result c.count-number.ensures (stop_fits s c.args.self.now limits can).number) c.try_close.new.self c.try_close.ensures c.try_end.new.self c.in_ok-try_end.ensures.ends))) left
+
+  proceeds_by_by : ProceedsThen s.config.trigger c.args.left c.count-number.result
+      c.try_end.new.self c.do_due_cycle.new.self
+  proceeds_by_by = subst (λ (n : ℕ). ProceedsThen n c.args.left c.count-number.result c.try_end.new.self c.do_due_cycle.new.self) same
+      c.in_ok-do_due_cycle.ensures.proceeds
+
+  stepped_by : IsStepped s c.args.self.now c.do_due_cycle.new.self
+  stepped_by = record {
+    number = c.count-number.result;
+    number_is = count_is (length c.args.self.now.rows.stops) c.count-number.result c.count-number.ensures (stop_fits s c.args.self.now limits can).number;
+    promoted = c.promote.new.self;
+    promotes = c.in_ok-promoted.ensures.promoted;
+    lists = c.in_ok-promoted.ensures.listed;
+    added = c.add_remembered.new.self;
+    adds = c.add_remembered.ensures;
+    closed = c.try_close.new.self;
+    closes = c.try_close.ensures;
+    ended = c.try_end.new.self;
+    ends = c.in_ok-try_end.ensures.ends;
+    some = c.args.left;
+    some_is = left_at_end_by;
+    proceeds = proceeds_by_by;
+  }
+
+  read_by : IsRead s c.do_due_cycle.new.self
+  read_by = record {
+    left = c.args.left;
+    left_is = some_left_then s c.try_end.new.self c.do_due_cycle.new.self s.config.trigger c.count-number.result
+        c.args.left (proceeds_by_by) (left_at_end_by);
+    phase = c.phase.result;
+    phase_is = c.phase.ensures;
+    free = c.free_count-free.result;
+    free_is = c.free_count-free.ensures;
+    filled = c.filled_count.result;
+    filled_is = c.filled_count.ensures;
+    sweep = c.sweep_count.result;
+    sweep_is = c.sweep_count.ensures;
+    reserve = c.reserve-reserve.result;
+    reserve_is = c.reserve-reserve.ensures ∙ ap reserve_count c.layout.ensures.layout;
+  }
+
+  why_by : Why s c.do_due_cycle.new.self (read_by) c.if-left.end
+  unfolding read_by
+  why_by =
+      let because : StopEnd → Type 0 = λ (e : StopEnd). Why s c.do_due_cycle.new.self (read_by) e in
+      elim c.if-left.branch [
+        | then-left+then-free-reserve w ↦ subst because (sym w.end-is) (refl, refl, w.if-left.true, w.if-free-reserve.true)
+        | else-left+then-not-left+then-eq w ↦
+            let quiet = same_true the_type tt w.phase-then-not-left.result Idle (sym w.eq.ensures ∙ w.if-eq.true) in
+            subst because (sym w.end-is) (w.if-not-left.true, sym w.phase-then-not-left.ensures ∙ quiet)
+        | else-left+else-not-left w ↦
+            let goes_on : because answer.GoOn = elim w.else-left.branch [
+              | else-left-via-then-left+else-free-reserve v ↦ inl (v.if-left.true, v.if-free-reserve.false)
+              | else-left-via-else-left v ↦
+                  let none : c.args.left ≡ false = v.if-left.false in
+                  let busy : because answer.GoOn = elim w.else-not-left.branch [
+                    | else-not-left-via-then-not-left+else-eq u ↦ inr (
+                      none,
+                      λ e. same_false the_type u.phase-then-not-left.result Idle (sym u.eq.ensures ∙ u.if-eq.false) (u.phase-then-not-left.ensures ∙ e),
+                    )
+                    | else-not-left-via-else-not-left u ↦
+                        let some : c.args.left ≡ true = u.if-not-left.false in
+                        absurd (true_isnt (sym some ∙ none))
+                  ] in
+                  busy
+            ] in
+            subst because (sym w.end-is) goes_on
+      ]
+
+pub returns-clause-each : goal.returns-clause-each
+unfolding stepped_by read_by
+returns-clause-each g c = λ other limits same left can.
+    has_answered c.a_stop_leads.ensures other c.args.self.now c.do_due_cycle.new.self limits (stepped_by g c other limits same left can)
+    (read_by g c other limits same left can) c.in_ok-promoted.promoted c.in_ok-promoted.ensures.many c.note.new.self c.end_of_answer-self.result
+    c.note.ensures can c.if-left.end (why_by g c other limits same left can) c.end_of_answer-self.ensures

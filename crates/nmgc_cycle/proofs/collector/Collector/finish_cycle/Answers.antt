@@ -22,6 +22,6 @@ returns-clause-finished g c = record {
 }
 
 pub returns-clause-handed : goal.returns-clause-handed
-returns-clause-handed g c = handed_after c.args.self.now c.sweep_rest.new.self c.try_end.new.self c.args.rows.now c.try_end.new.rows
+returns-clause-handed g c = handed_after c.args.stop c.args.self.now c.sweep_rest.new.self c.try_end.new.self c.args.rows.now c.try_end.new.rows
     (ap (λ (x : Collector). x.rows.cycles) c.sweep_rest.ensures.rest ∙ ap (λ (x : Collector). x.rows.cycles) c.close_now.ensures.rest)
     c.in_ok-try_end.ensures.handed

@@ -15,7 +15,7 @@ pub stops-preserved : goal.stops-preserved
 stops-preserved g c =
     let stopped = stop_observed g.J.Observer.steps c.args.observer.now c.stops.observer c.observe_stop.new.observer c.stops.collector
     c.stop.new.self c.in_ok-answer.ensures.stops.0 c.stop.new.rows.stop c.new-handed.result.cycles c.stop.new.rows.cycles c.stops.invariant.observed
-    c.new-handed.ensures.1 c.in_ok-answer.ensures.stops.2 c.in_ok-answer.ensures.rounds c.in_ok-answer.ensures.stops.1 c.in_ok-answer.ensures.cycles
+    c.new-handed.ensures.1 c.in_ok-answer.ensures.stops.2 c.in_ok-answer.ensures.stops.3 c.in_ok-answer.ensures.rounds c.in_ok-answer.ensures.stops.1 c.in_ok-answer.ensures.cycles
     c.in_ok-observe_stop.ensures.ok in
     record {
       can = inr c.in_ok-rows-in-GoOn.ensures.worked.0;
@@ -42,7 +42,7 @@ returns-in-Done-clause-ok g c = (
   subst (HasAnswered c.args.script.now c.stop.new.self) c.in-Done.is c.in_ok-answer.ensures.answered,
   stop_observed g.J.Observer.steps c.args.observer.now c.stops.observer c.observe_stop.new.observer c.stops.collector
       c.stop.new.self c.in_ok-answer.ensures.stops.0 c.stop.new.rows.stop c.new-handed.result.cycles c.stop.new.rows.cycles c.stops.invariant.observed
-      c.new-handed.ensures.1 c.in_ok-answer.ensures.stops.2 c.in_ok-answer.ensures.rounds c.in_ok-answer.ensures.stops.1 c.in_ok-answer.ensures.cycles
+      c.new-handed.ensures.1 c.in_ok-answer.ensures.stops.2 c.in_ok-answer.ensures.stops.3 c.in_ok-answer.ensures.rounds c.in_ok-answer.ensures.stops.1 c.in_ok-answer.ensures.cycles
       c.in_ok-observe_stop.ensures.ok,
 )
 
@@ -51,7 +51,7 @@ returns-in-HeapFull-clause-ok g c = (
   subst (HasAnswered c.args.script.now c.stop.new.self) c.in-HeapFull.is c.in_ok-answer.ensures.answered,
   stop_observed g.J.Observer.steps c.args.observer.now c.stops.observer c.observe_stop.new.observer c.stops.collector
       c.stop.new.self c.in_ok-answer.ensures.stops.0 c.stop.new.rows.stop c.new-handed.result.cycles c.stop.new.rows.cycles c.stops.invariant.observed
-      c.new-handed.ensures.1 c.in_ok-answer.ensures.stops.2 c.in_ok-answer.ensures.rounds c.in_ok-answer.ensures.stops.1 c.in_ok-answer.ensures.cycles
+      c.new-handed.ensures.1 c.in_ok-answer.ensures.stops.2 c.in_ok-answer.ensures.stops.3 c.in_ok-answer.ensures.rounds c.in_ok-answer.ensures.stops.1 c.in_ok-answer.ensures.cycles
       c.in_ok-observe_stop.ensures.ok,
 )
 
@@ -67,21 +67,21 @@ pub returns-in_err-observe_stop-clause-err : goal.returns-in_err-observe_stop-cl
 returns-in_err-observe_stop-clause-err g c = any_err _ (but_last c.stop.new.self false (stopped_any c.args.script.now c.stop.new.self c.in_ok-answer.answer c.in_ok-answer.ensures.answered)
     (stop_failed g.J.Observer.steps g.J.Observer.fails c.args.observer.now c.stops.observer c.observe_stop.new.observer c.stops.collector
     c.stop.new.self c.in_ok-answer.ensures.stops.0 c.stop.new.rows.stop c.new-handed.result.cycles c.stop.new.rows.cycles c.stops.invariant.observed
-    c.new-handed.ensures.1 c.in_ok-answer.ensures.stops.2 c.in_ok-answer.ensures.rounds c.in_ok-answer.ensures.stops.1 c.in_ok-answer.ensures.cycles
+    c.new-handed.ensures.1 c.in_ok-answer.ensures.stops.2 c.in_ok-answer.ensures.stops.3 c.in_ok-answer.ensures.rounds c.in_ok-answer.ensures.stops.1 c.in_ok-answer.ensures.cycles
     c.in_err-observe_stop.ensures.err))
 
 pub returns-in_err-rows-in-GoOn-clause-err : goal.returns-in_err-rows-in-GoOn-clause-err
 returns-in_err-rows-in-GoOn-clause-err g c = any_err _ (each_event c.stop.new.self false (stopped_any c.args.script.now c.stop.new.self c.in_ok-answer.answer c.in_ok-answer.ensures.answered)
     (stop_observed g.J.Observer.steps c.args.observer.now c.stops.observer c.observe_stop.new.observer c.stops.collector
     c.stop.new.self c.in_ok-answer.ensures.stops.0 c.stop.new.rows.stop c.new-handed.result.cycles c.stop.new.rows.cycles c.stops.invariant.observed
-    c.new-handed.ensures.1 c.in_ok-answer.ensures.stops.2 c.in_ok-answer.ensures.rounds c.in_ok-answer.ensures.stops.1 c.in_ok-answer.ensures.cycles
+    c.new-handed.ensures.1 c.in_ok-answer.ensures.stops.2 c.in_ok-answer.ensures.stops.3 c.in_ok-answer.ensures.rounds c.in_ok-answer.ensures.stops.1 c.in_ok-answer.ensures.cycles
     c.in_ok-observe_stop.ensures.ok))
 
 pub returns-in_err-observe-in-GoOn-clause-err : goal.returns-in_err-observe-in-GoOn-clause-err
 returns-in_err-observe-in-GoOn-clause-err g c =
     let stopped = stop_observed g.J.Observer.steps c.args.observer.now c.stops.observer c.observe_stop.new.observer c.stops.collector
     c.stop.new.self c.in_ok-answer.ensures.stops.0 c.stop.new.rows.stop c.new-handed.result.cycles c.stop.new.rows.cycles c.stops.invariant.observed
-    c.new-handed.ensures.1 c.in_ok-answer.ensures.stops.2 c.in_ok-answer.ensures.rounds c.in_ok-answer.ensures.stops.1 c.in_ok-answer.ensures.cycles
+    c.new-handed.ensures.1 c.in_ok-answer.ensures.stops.2 c.in_ok-answer.ensures.stops.3 c.in_ok-answer.ensures.rounds c.in_ok-answer.ensures.stops.1 c.in_ok-answer.ensures.cycles
     c.in_ok-observe_stop.ensures.ok in
     any_err _ (but_last c.round.new.self true (inr c.in_ok-rows-in-GoOn.ensures.worked.0)
     (round_failed g.J.Observer.steps g.J.Observer.fails c.args.observer.now c.observe_stop.new.observer c.observe.new.self c.stop.new.self c.round.new.self

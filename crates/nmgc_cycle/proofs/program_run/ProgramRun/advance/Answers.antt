@@ -19,6 +19,7 @@ returns-in_ok-observe-in-GoOn-clause-config g c =
       row = c.in_ok-answer.ensures.stops.0;
       stops = c.in_ok-answer.ensures.stops.1;
       stop_is = c.in_ok-answer.ensures.stops.2;
+      number = c.in_ok-answer.ensures.stops.3;
       hands = c.in_ok-answer.ensures.cycles;
       none_is = c.new-handed.ensures.1;
     } in
@@ -32,6 +33,7 @@ returns-in_ok-observe-in-GoOn-clause-more g c =
       row = c.in_ok-answer.ensures.stops.0;
       stops = c.in_ok-answer.ensures.stops.1;
       stop_is = c.in_ok-answer.ensures.stops.2;
+      number = c.in_ok-answer.ensures.stops.3;
       hands = c.in_ok-answer.ensures.cycles;
       none_is = c.new-handed.ensures.1;
     } in
@@ -46,6 +48,7 @@ returns-in_ok-observe-in-GoOn-clause-stands g c =
       row = c.in_ok-answer.ensures.stops.0;
       stops = c.in_ok-answer.ensures.stops.1;
       stop_is = c.in_ok-answer.ensures.stops.2;
+      number = c.in_ok-answer.ensures.stops.3;
       hands = c.in_ok-answer.ensures.cycles;
       none_is = c.new-handed.ensures.1;
     } in
@@ -93,6 +96,7 @@ returns-in-Done-clause-more g c =
       row = c.in_ok-answer.ensures.stops.0;
       stops = c.in_ok-answer.ensures.stops.1;
       stop_is = c.in_ok-answer.ensures.stops.2;
+      number = c.in_ok-answer.ensures.stops.3;
       hands = c.in_ok-answer.ensures.cycles;
       none_is = c.new-handed.ensures.1;
     } in
@@ -106,6 +110,7 @@ returns-in-Done-clause-ended g c =
       row = c.in_ok-answer.ensures.stops.0;
       stops = c.in_ok-answer.ensures.stops.1;
       stop_is = c.in_ok-answer.ensures.stops.2;
+      number = c.in_ok-answer.ensures.stops.3;
       hands = c.in_ok-answer.ensures.cycles;
       none_is = c.new-handed.ensures.1;
     } in (
@@ -128,6 +133,7 @@ returns-in-Done-clause-config g c =
       row = c.in_ok-answer.ensures.stops.0;
       stops = c.in_ok-answer.ensures.stops.1;
       stop_is = c.in_ok-answer.ensures.stops.2;
+      number = c.in_ok-answer.ensures.stops.3;
       hands = c.in_ok-answer.ensures.cycles;
       none_is = c.new-handed.ensures.1;
     } in
@@ -144,6 +150,7 @@ returns-in-HeapFull-clause-more g c =
       row = c.in_ok-answer.ensures.stops.0;
       stops = c.in_ok-answer.ensures.stops.1;
       stop_is = c.in_ok-answer.ensures.stops.2;
+      number = c.in_ok-answer.ensures.stops.3;
       hands = c.in_ok-answer.ensures.cycles;
       none_is = c.new-handed.ensures.1;
     } in
@@ -157,6 +164,7 @@ returns-in-HeapFull-clause-ended g c =
       row = c.in_ok-answer.ensures.stops.0;
       stops = c.in_ok-answer.ensures.stops.1;
       stop_is = c.in_ok-answer.ensures.stops.2;
+      number = c.in_ok-answer.ensures.stops.3;
       hands = c.in_ok-answer.ensures.cycles;
       none_is = c.new-handed.ensures.1;
     } in (
@@ -179,6 +187,7 @@ returns-in-HeapFull-clause-config g c =
       row = c.in_ok-answer.ensures.stops.0;
       stops = c.in_ok-answer.ensures.stops.1;
       stop_is = c.in_ok-answer.ensures.stops.2;
+      number = c.in_ok-answer.ensures.stops.3;
       hands = c.in_ok-answer.ensures.cycles;
       none_is = c.new-handed.ensures.1;
     } in
@@ -209,6 +218,7 @@ returns-in_err-observe_stop-clause-err g c =
       row = c.in_ok-answer.ensures.stops.0;
       stops = c.in_ok-answer.ensures.stops.1;
       stop_is = c.in_ok-answer.ensures.stops.2;
+      number = c.in_ok-answer.ensures.stops.3;
       hands = c.in_ok-answer.ensures.cycles;
       none_is = c.new-handed.ensures.1;
     } in
@@ -228,6 +238,7 @@ returns-in_err-rows-in-GoOn-clause-err g c =
       row = c.in_ok-answer.ensures.stops.0;
       stops = c.in_ok-answer.ensures.stops.1;
       stop_is = c.in_ok-answer.ensures.stops.2;
+      number = c.in_ok-answer.ensures.stops.3;
       hands = c.in_ok-answer.ensures.cycles;
       none_is = c.new-handed.ensures.1;
     } in
@@ -245,6 +256,7 @@ returns-in_err-observe-in-GoOn-clause-err g c =
       row = c.in_ok-answer.ensures.stops.0;
       stops = c.in_ok-answer.ensures.stops.1;
       stop_is = c.in_ok-answer.ensures.stops.2;
+      number = c.in_ok-answer.ensures.stops.3;
       hands = c.in_ok-answer.ensures.cycles;
       none_is = c.new-handed.ensures.1;
     } in

@@ -17,4 +17,4 @@ returns-clause-stands g c = subst (λ (given : List (List Done)).
 pub returns-clause-events : goal.returns-clause-events
 returns-clause-events g c =
     let nothing = c.in_ok-collector.ensures.fresh.new.nothing in
-    record { rounds = sym nothing.0; stops = sym nothing.1; cycles = sym nothing.2; alternate = tt; next = refl }
+    record { rounds = sym nothing.0; stops = sym nothing.1; cycles = sym nothing.2; alternate = tt; next = refl; numbered = tt }

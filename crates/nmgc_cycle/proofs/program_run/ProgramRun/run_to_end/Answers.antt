@@ -1,4 +1,4 @@
-use Rattle.nmgc_cycle.proofs.{Vocabulary.◌∙◌, Vocabulary.Option, Vocabulary.arith, Vocabulary.false, Vocabulary.subst, Vocabulary.true, Vocabulary.Some, Vocabulary.IfNone, Vocabulary.IfSome, Vocabulary.End, Vocabulary.RunHasEnded, Vocabulary.IsContinuedTo, Vocabulary.ObservedFrom, Vocabulary.StandsBeforeStop, rounds.StopByStop.advanced_further, rounds.StopByStop.all_more_given, rounds.StopByStop.gave_some_further, rounds.StopByStop.gave_up_further, rounds.StopByStop.goes_further, rounds.StopByStop.more_stops, rounds.StopByStop.not_advanced, rounds.StopByStop.observed_further, rounds.StopByStop.stops_left, stops.Observing.any_err}
+use Rattle.nmgc_cycle.proofs.{Vocabulary.◌∙◌, Vocabulary.Option, Vocabulary.arith, Vocabulary.false, Vocabulary.subst, Vocabulary.true, Vocabulary.Some, Vocabulary.IfNone, Vocabulary.IfSome, Vocabulary.End, Vocabulary.RunHasEnded, Vocabulary.ObservedFrom, Vocabulary.StandsBeforeStop, rounds.StopByStop.advanced_further, rounds.StopByStop.all_more_given, rounds.StopByStop.gave_some_further, rounds.StopByStop.gave_up_further, rounds.StopByStop.goes_further, rounds.StopByStop.more_stops, rounds.StopByStop.not_advanced, rounds.StopByStop.observed_further, rounds.StopByStop.stops_left, stops.Observing.any_err, Vocabulary.IsContinuedTo}
 use Rattle.nmgc_cycle.proofs.program_run.ProgramRun.run_to_end.Goals as goal
 
 pub stops-init : goal.stops-init
