@@ -1,7 +1,9 @@
-"""A trace of either format, up to its end or to the first line that can't happen."""
+"""A trace of format 1 or 2, up to its end or to the first line that can't happen."""
 from .core import Core
 from .text import MOST_BYTES, BadInput
 from .trace import HEAD, Refusal, Refused, Watch
+
+WITHOUT_REGISTERS = "trace 3"
 
 
 def lines_of(stream):
@@ -15,8 +17,10 @@ def lines_of(stream):
 
 def watched(stream):
     """Watches a trace up to its end, or to the line that can't happen, which `refusal` of the watch then tells. `BadInput` tells
-    a line that is none of a trace, or that can't stand where it stands."""
+    a line that is none of a trace, or that can't stand where it stands, and refuses a trace of format 3."""
     lines = lines_of(stream)
+    if lines[:1] == [WITHOUT_REGISTERS]:
+        raise BadInput("a trace without registers has no picture")
     watch = Watch() if lines[:1] == [HEAD] else Core()
     for number, text in enumerate(lines, 1):
         try:

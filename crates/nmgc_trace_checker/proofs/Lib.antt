@@ -3,6 +3,7 @@ mod Appended
 mod CommandLaws
 mod Drains
 mod Each
+mod FieldReadings
 mod Happens
 mod Kepts
 mod LineSayings

@@ -1,5 +1,5 @@
 -- The output of the program, argument by argument.
-use Rattle.nmgc_trace_checker.proofs.Vocabulary.{IsFault, IsFaultAfter, IsHeardUpTo, IsTooLong, head_texts, AreAnswered, IsAnswerTo, IsGravest, IsResult, Judged, SaysAll, is_live, label_of, rank, status_of, texts_of, outcome_text, IsPassedOn, IsShownAs, Writes, WritesLive, WritesOne, TraceFault, Outcome, Status, text_bytes, Text, AppendsFront, Rose, WriteEnd, nothing, Bool, Err, List, Ok, Option, Result, [], ap, append_assoc, arith, codes, drop, false, get_or, inl, inr, length, map, refl, subst, sym, take, true, ℕ, ◌++◌, ◌+◌, ◌<◌, ◌∙◌, ◌∷◌, ◌≡◌, ◌≤◌, ◌⊎◌, cond-false, cond-true, append-nil, map-append, map_more, take-append-drop, Contains-append_cases, Contains-append_left, Contains-append_right, Contains-push, Contains-push_cases, Appends, OnErr, OnOk, Contains}
+use Rattle.nmgc_trace_checker.proofs.Vocabulary.{IsFault, IsFaultAfter, IsHeard, IsTooLong, AreAnswered, IsAnswerTo, IsGravest, IsResult, Judged, SaysAll, is_live, label_of, rank, status_of, texts_of, outcome_text, IsPassedOn, IsShownAs, Writes, WritesLive, WritesOne, TraceFault, Outcome, Status, text_bytes, Text, AppendsFront, Rose, WriteEnd, nothing, Bool, Err, List, Ok, Option, Result, [], ap, append_assoc, arith, codes, drop, false, get_or, inl, inr, length, map, refl, subst, sym, take, true, ℕ, ◌++◌, ◌+◌, ◌<◌, ◌∙◌, ◌∷◌, ◌≡◌, ◌≤◌, ◌⊎◌, cond-false, cond-true, append-nil, map-append, map_more, take-append-drop, Contains-append_cases, Contains-append_left, Contains-append_right, Contains-push, Contains-push_cases, Appends, OnErr, OnOk, Contains}
 use Rattle.nmgc_trace_checker.proofs.{Appended.appends_nothing, Appended.appends_on, Appended.front_first, Appended.front_then, Appended.rose_since, Readings.fault_by}
 use Rattle.nmgc_io.specs.declared.ends.WriteEnd.TheVariants.{WriteFault}
 use Rattle.nmgc_trace_checker.specs.declared.reading.TraceFault.TheVariants as fault
@@ -57,7 +57,7 @@ one_answer : (bytes : List ℕ → Option (List ℕ)) (name said : List ℕ) (s 
 one_answer bytes name said s a = (said, [], sym (append-nil said), a, refl)
 
 -- any answers so far can be completed by `no memory`
-no_memory_to : (bytes : List ℕ → Option (List ℕ)) (name live : List ℕ) → IsHeardUpTo head_texts (bytes name) (is_live name) live →
+no_memory_to : (bytes : List ℕ → Option (List ℕ)) (name live : List ℕ) → IsHeard (bytes name) (is_live name) live →
     IsAnswerTo bytes name (live ++ (label_of name ++ (codes "no memory" ++ codes "\n"))) status.NoMemory
 no_memory_to bytes name live heard = record {
   judged = Err fault.NoMemory;
@@ -73,7 +73,7 @@ unread bytes [] = ([], [], refl)
 unread bytes (name ∷ names) =
     let line : List ℕ = label_of name ++ (codes "no memory" ++ codes "\n") in
     let rest = unread bytes names in
-    (line ++ rest.0, status.NoMemory ∷ rest.1, (line, rest.0, refl, no_memory_to bytes name [] (inl refl), rest.2))
+    (line ++ rest.0, status.NoMemory ∷ rest.1, (line, rest.0, refl, no_memory_to bytes name [] (inl (inl refl)), rest.2))
 
 pub none_answered : (bytes : List ℕ → Option (List ℕ)) (a : Option (List ℕ)) (m : ℕ) → WritesOne (AreAnswered bytes []) a a m m (Ok status.Passed)
 none_answered bytes a m = ([], [], refl, gravest_none, appends_nothing a, omega arith)
@@ -160,7 +160,7 @@ live_cut bytes name a b m n e h =
 
 -- a fault of reading is a result, and a fault of the output is none
 pub passed_live : (known : Option (List ℕ)) (is_asked : Bool) (a b : Option (List ℕ)) (m n : ℕ) (said : List ℕ) (f : TraceFault) (r : Result Judged WriteEnd) →
-    IsPassedOn f r → IsHeardUpTo head_texts known is_asked said → IsFaultAfter (IsTooLong texts_of known) a b (Rose m n) said f → m ≤ n →
+    IsPassedOn f r → IsHeard known is_asked said → IsFaultAfter (IsTooLong texts_of known) a b (Rose m n) said f → m ≤ n →
     WritesLive known is_asked a b m n r
 passed_live known is_asked a b m n said fault.Unwritten r is heard (inl h) le = absurd h.0
 passed_live known is_asked a b m n said f r is heard (inl h) le = rw is (said, (h.0, heard), h.1, le)
@@ -172,7 +172,7 @@ passed_live known is_asked a b m n said f r is heard (inr h) le =
 pub not_opened : (known : Option (List ℕ)) (is_asked : Bool) (a : Option (List ℕ)) (m : ℕ) (f : TraceFault) → IsFault ⊥ f →
     WritesLive known is_asked a a m m (Ok (Err f))
 not_opened known is_asked a m f is =
-    ([], (fault_by ⊥ (IsTooLong texts_of known) f (λ never. absurd never) is, inl refl), appends_nothing a, omega arith)
+    ([], (fault_by ⊥ (IsTooLong texts_of known) f (λ never. absurd never) is, inl (inl refl)), appends_nothing a, omega arith)
 
 -- by the bytes that the trace is known to have
 pub live_at : (known known' : Option (List ℕ)) (b b' : Bool) (a c : Option (List ℕ)) (m n : ℕ) (r : Result Judged WriteEnd) → known ≡ known' → b ≡ b' →

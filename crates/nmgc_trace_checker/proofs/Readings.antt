@@ -1,7 +1,9 @@
 -- A trace that is read line by line: the lines read so far are the lines that the bytes say, with the progress after them.
 use Rattle.std.proofs.lemmas.List.{take_at}
-use Rattle.nmgc_trace_checker.proofs.Vocabulary.{HasTried, IsNoted, IsSinceIn, AreLinesOf, AreMarkedLines, IsFault, IsFaultAfter, IsHeardUpTo, IsMarked, IsMarkedOf, IsOutcome, IsSince, IsTextAt, IsTooLong, IsWatchedBy, happened_of, head_texts, is_refused, is_refused_there, no_counts, ok_to, oks, with_line, with_lines, Comes, EndsAtLine, report_of, AreSaid, IsNextLine, Says, SaysLine, ahead, texts_of, IsVerdictAfter, refusal_of, Line, Progress, TraceFault, Begun, Refusal, Report, Answer, DueLine, TraceChecker, Counts, Meaning, Verdict, AppendsFront, nothing, head_of, Bool, Err, List, None, Ok, Option, Result, Some, [], ap, append_assoc, arith, codes, false, inl, inr, length, refl, string_bytes, subst, sym, take, true, ℕ, ◌++◌, ◌+◌, ◌-◌, ◌^◌, ◌∙◌, ◌∷◌, ◌≡◌, ◌≤◌, and_parts, false≢true, flat_map_more, length-append, bytes_eq-Decides, Appends, option_map, strip_last, Contains, IfErr, IfSome, IsErrAnd, ◌&&◌, bytes_eq}
+use Rattle.nmgc_trace_checker.proofs.Vocabulary.{AreFields, AreFieldsHeard, IsHeard, HasTried, IsNoted, IsSinceIn, AreLinesOf, AreMarkedLines, IsFault, IsFaultAfter, IsHeardUpTo, IsMarked, IsMarkedOf, IsOutcome, IsSince, IsTextAt, IsTooLong, IsWatchedBy, happened_of, is_refused, is_refused_there, no_counts, ok_to, oks, with_line, with_lines, Comes, EndsAtLine, report_of, AreSaid, IsNextLine, Says, SaysLine, ahead, texts_of, IsVerdictAfter, refusal_of, Line, Progress, TraceFault, Begun, Refusal, Report, Answer, DueLine, TraceChecker, Counts, Meaning, Verdict, AppendsFront, nothing, head_of, Bool, Err, List, None, Ok, Option, Result, Some, [], ap, append_assoc, arith, codes, false, inl, inr, length, refl, string_bytes, subst, sym, take, true, ℕ, ◌++◌, ◌+◌, ◌-◌, ◌^◌, ◌∙◌, ◌∷◌, ◌≡◌, ◌≤◌, and_parts, false≢true, flat_map_more, length-append, bytes_eq-Decides, Appends, option_map, strip_last, Contains, IfErr, IfSome, IsErrAnd, ◌&&◌, bytes_eq}
 use Rattle.nmgc_trace_checker.specs.{Notes.AreKept, Notes.HasLine, Notes.IsOwedIn, Notes.IsTextOf, Outcomes.IsWatched, Reports.AddsOf, Reports.ComeDue, Reports.Happens, Reports.IsRefusal}
+use Rattle.nmgc_field_reader.specs.{declared.report.FieldAnswer.FieldAnswer}
+use Rattle.nmgc_field_reader.specs.FieldTraces.{is_refused as is_refused_field}
 use Rattle.nmgc_barrier_checker.specs.declared.event.Why.TheVariants as why
 use Rattle.nmgc_trace_checker.specs.declared.report.Refusal.TheVariants as refusal
 use Rattle.nmgc_trace_checker.proofs.Owing.{of_line}
@@ -35,7 +37,7 @@ said_within says (t ∷ ts) (x ∷ xs) left is = let rest : length xs ≤ length
 -- FORMAT 2
 
 -- the texts of the lines that were read, if the bytes are known, and these bytes are left
-abbrev Front : Option (List ℕ) → List (List ℕ) → Option (List ℕ) → Type 0
+abbrev pub Front : Option (List ℕ) → List (List ℕ) → Option (List ℕ) → Type 0
 Front known texts now = IfSome known (λ all. (rest : List ℕ) × (now ≡ Some rest) × (texts_of all ≡ texts ++ texts_of rest))
 
 -- some lines were read after the head, each can happen, and the next line has this number. They have these answers, and the
@@ -60,7 +62,7 @@ pub record Answered (known : Option (List ℕ)) (is_asked : Bool) (n : ℕ) (che
   pub so_far : SoFar known is_asked n checker now said
   pub later : before ≤ after
 
-no_front : (known : Option (List ℕ)) → Front known [] known
+pub no_front : (known : Option (List ℕ)) → Front known [] known
 no_front None = tt
 no_front (Some all) = (all, refl, refl)
 
@@ -104,7 +106,7 @@ said_length [] (y ∷ ys) is = absurd is
 said_length (x ∷ xs) (y ∷ ys) is = let rest : length xs ≡ length ys = said_length xs ys is.1 in omega arith
 
 -- the next text was read
-front_on : (known now next : Option (List ℕ)) (texts : List (List ℕ)) (read line : List ℕ) → Front known texts now → IsNextLine now next read true →
+pub front_on : (known now next : Option (List ℕ)) (texts : List (List ℕ)) (read line : List ℕ) → Front known texts now → IsNextLine now next read true →
     line ≡ strip_last 13 (strip_last 10 read) → Front known (texts ++ line ∷ []) next
 front_on None now next texts read line r is cut = tt
 front_on (Some all) now next texts read line r is cut =
@@ -117,12 +119,12 @@ front_on (Some all) now next texts read line r is cut =
     )
 
 -- the first lines, if more may follow
-lines_so_far : (known now : Option (List ℕ)) (texts : List (List ℕ)) → Front known texts now → AreLinesOf known texts true
+pub lines_so_far : (known now : Option (List ℕ)) (texts : List (List ℕ)) → Front known texts now → AreLinesOf known texts true
 lines_so_far None now texts r = tt
 lines_so_far (Some all) now texts r = (texts_of r.0, r.2, λ never. absurd (false≢true (sym never)))
 
 -- all lines
-all_lines : (known now next : Option (List ℕ)) (texts : List (List ℕ)) (read : List ℕ) (refused : Bool) → Front known texts now →
+pub all_lines : (known now next : Option (List ℕ)) (texts : List (List ℕ)) (read : List ℕ) (refused : Bool) → Front known texts now →
     IsNextLine now next read false → AreLinesOf known texts refused
 all_lines None now next texts read refused r is = tt
 all_lines (Some all) now next texts read refused r is =
@@ -416,60 +418,72 @@ marked_too_long (Some all) is_there first n p now goes_on text s last =
 
 -- THE FORMAT
 
-is_head : (text : List ℕ) → bytes_eq text (codes "trace 2") ≡ true → text ≡ codes "trace 2"
-is_head text e = (bytes_eq-Decides text (codes "trace 2")).0 e
+-- the first line is this head
+abbrev pub IsHead : Bool → List ℕ → List ℕ → Type 0
+IsHead is_there line head = (is_there && bytes_eq (strip_last 13 (strip_last 10 line)) head) ≡ true
+
+-- the first line, if there is one, isn't this head
+abbrev pub IsNoHead : Bool → List ℕ → List ℕ → Type 0
+IsNoHead is_there line head = (is_there && bytes_eq (strip_last 13 (strip_last 10 line)) head) ≡ false
 
 -- the lines after the head are all lines after it
-after_head : (old now : Option (List ℕ)) (is_there : Bool) (line : List ℕ) (texts : List (List ℕ)) (refused : Bool) → IsNextLine old now line is_there →
-    (is_there && bytes_eq (strip_last 13 (strip_last 10 line)) (codes "trace 2")) ≡ true → AreLinesOf now texts refused →
-    AreLinesOf old (head_texts ++ texts) refused
-after_head None now is_there line texts refused is head h = tt
-after_head (Some bytes) now is_there line texts refused is head h =
-    let p : (is_there ≡ true) × (bytes_eq (strip_last 13 (strip_last 10 line)) (codes "trace 2") ≡ true) =
-    and_parts is_there (bytes_eq (strip_last 13 (strip_last 10 line)) (codes "trace 2")) head in
+after_head : (head : List ℕ) (old now : Option (List ℕ)) (is_there : Bool) (line : List ℕ) (texts : List (List ℕ)) (refused : Bool) →
+    IsNextLine old now line is_there → IsHead is_there line head → AreLinesOf now texts refused → AreLinesOf old (head ∷ texts) refused
+after_head head None now is_there line texts refused is e h = tt
+after_head head (Some bytes) now is_there line texts refused is e h =
+    let p : (is_there ≡ true) × (bytes_eq (strip_last 13 (strip_last 10 line)) head ≡ true) =
+    and_parts is_there (bytes_eq (strip_last 13 (strip_last 10 line)) head) e in
     let here : texts_of bytes ≡ ahead true line is.0 = subst (λ (b : Bool). texts_of bytes ≡ ahead b line is.0) p.0 is.2 in
     let f : (left : List (List ℕ)) × (texts_of is.0 ≡ texts ++ left) × (refused ≡ false → left ≡ []) =
     subst (λ (o : Option (List ℕ)). AreLinesOf o texts refused) is.1 h in (
       f.0,
-      here ∙ ap (λ (l : List ℕ). l ∷ texts_of is.0) (is_head (strip_last 13 (strip_last 10 line)) p.1) ∙
-          ap (λ (ts : List (List ℕ)). codes "trace 2" ∷ ts) f.1,
+      here ∙ ap (λ (l : List ℕ). l ∷ texts_of is.0) ((bytes_eq-Decides (strip_last 13 (strip_last 10 line)) head).0 p.1) ∙
+          ap (λ (ts : List (List ℕ)). head ∷ ts) f.1,
       f.2,
     )
 
-module _ (old now : Option (List ℕ)) (is_there : Bool) (line : List ℕ) (is_asked : Bool) (said : List ℕ) (is : IsNextLine old now line is_there)
-    (head : (is_there && bytes_eq (strip_last 13 (strip_last 10 line)) (codes "trace 2")) ≡ true) where
-  pub heard_after_head : IsHeardUpTo [] now is_asked said → IsHeardUpTo head_texts old is_asked said
-  heard_after_head (inl none) = inl none
-  heard_after_head (inr h) = inr (h.0, after_head old now is_there line h.0 true is head h.1, h.2)
+module _ (old now : Option (List ℕ)) (is_there : Bool) (line : List ℕ) (is_asked : Bool) (said : List ℕ) (is : IsNextLine old now line is_there) where
+  pub heard_after_head : IsHead is_there line (codes "trace 2") → IsHeardUpTo [] now is_asked said → IsHeard old is_asked said
+  heard_after_head head (inl none) = inl (inl none)
+  heard_after_head head (inr h) = inl (inr (h.0, after_head (codes "trace 2") old now is_there line h.0 true is head h.1, h.2))
 
-  pub outcome_watched : (answer : Answer) → IsWatched [] now is_asked said answer.report answer.counts answer.dues (option_map string_bytes answer.since) →
+  pub fields_after_head : IsHead is_there line (codes "trace 3") → AreFieldsHeard [] now is_asked said → IsHeard old is_asked said
+  fields_after_head head (inl none) = inr (inl none)
+  fields_after_head head (inr h) = inr (inr (h.0, after_head (codes "trace 3") old now is_there line h.0 true is head h.1, h.2))
+
+  pub outcome_watched : IsHead is_there line (codes "trace 2") → (answer : Answer) →
+      IsWatched [] now is_asked said answer.report answer.counts answer.dues (option_map string_bytes answer.since) →
       IsOutcome old is_asked said (outcome.Watched answer)
-  outcome_watched answer w = (w.0, after_head old now is_there line w.0 (is_refused answer.report) is head w.1, w.2)
+  outcome_watched head answer w = (w.0, after_head (codes "trace 2") old now is_there line w.0 (is_refused answer.report) is head w.1, w.2)
 
-no_head : (is_there : Bool) (line rest : List ℕ) (texts : List (List ℕ)) →
-    (is_there && bytes_eq (strip_last 13 (strip_last 10 line)) (codes "trace 2")) ≡ false → ahead is_there line rest ≡ codes "trace 2" ∷ texts → ⊥
-no_head false line rest texts head e = cc
-no_head true line rest texts head e =
-    let same : strip_last 13 (strip_last 10 line) ≡ codes "trace 2" = head_of (strip_last 13 (strip_last 10 line)) (codes "trace 2") (texts_of rest) texts e in
-    false≢true (sym head ∙ (bytes_eq-Decides (strip_last 13 (strip_last 10 line)) (codes "trace 2")).1 same)
+  pub outcome_fields : IsHead is_there line (codes "trace 3") → (answer : FieldAnswer) →
+      AreFields [] now is_asked said answer.report answer.counts answer.dues → IsOutcome old is_asked said (outcome.Fields answer)
+  outcome_fields head answer w = (w.0, after_head (codes "trace 3") old now is_there line w.0 (is_refused_field answer.report) is head w.1, w.2)
+
+no_head : (head : List ℕ) (is_there : Bool) (line rest : List ℕ) (texts : List (List ℕ)) → IsNoHead is_there line head → ahead is_there line rest ≡ head ∷ texts → ⊥
+no_head head false line rest texts none e = cc
+no_head head true line rest texts none e =
+    let same : strip_last 13 (strip_last 10 line) ≡ head = head_of (strip_last 13 (strip_last 10 line)) head (texts_of rest) texts e in
+    false≢true (sym none ∙ (bytes_eq-Decides (strip_last 13 (strip_last 10 line)) head).1 same)
 
 marked_of : (old now : Option (List ℕ)) (is_there : Bool) (line : List ℕ) (lines : List Line) (v : Verdict) → IsNextLine old now line is_there →
-    (is_there && bytes_eq (strip_last 13 (strip_last 10 line)) (codes "trace 2")) ≡ false →
+    IsNoHead is_there line (codes "trace 2") → IsNoHead is_there line (codes "trace 3") →
     IfSome now (λ rest. AreMarkedLines (ahead is_there line rest) lines v) →
     IfSome old (λ bytes. IsMarkedOf bytes lines v)
-marked_of None now is_there line lines v is head t = tt
-marked_of (Some bytes) now is_there line lines v is head t =
+marked_of None now is_there line lines v is two three t = tt
+marked_of (Some bytes) now is_there line lines v is two three t =
     let j : AreMarkedLines (ahead is_there line is.0) lines v =
     subst (λ (o : Option (List ℕ)). IfSome o (λ rest. AreMarkedLines (ahead is_there line rest) lines v)) is.1 t in
     record {
-      no_head = λ texts e. no_head is_there line is.0 texts head (sym is.2 ∙ e);
+      no_head = λ texts e. no_head (codes "trace 2") is_there line is.0 texts two (sym is.2 ∙ e);
+      no_field_head = λ texts e. no_head (codes "trace 3") is_there line is.0 texts three (sym is.2 ∙ e);
       meaning = subst (λ (texts : List (List ℕ)). AreMarkedLines texts lines v) (sym is.2) j;
     }
 
 pub outcome_marked : (old now : Option (List ℕ)) (is_there : Bool) (line : List ℕ) (is_asked : Bool) (v : Verdict) → IsNextLine old now line is_there →
-    (is_there && bytes_eq (strip_last 13 (strip_last 10 line)) (codes "trace 2")) ≡ false → IsMarked now is_there line v →
+    IsNoHead is_there line (codes "trace 2") → IsNoHead is_there line (codes "trace 3") → IsMarked now is_there line v →
     IsOutcome old is_asked [] (outcome.Marked v)
-outcome_marked old now is_there line is_asked v is head m = (m.0, marked_of old now is_there line m.0 v is head m.1, m.2, m.3, refl)
+outcome_marked old now is_there line is_asked v is two three m = (m.0, marked_of old now is_there line m.0 v is two three m.1, m.2, m.3, refl)
 
 -- FAULTS
 
@@ -489,20 +503,19 @@ of_stream long (Ok x) is = tt
 of_stream long (Err f) is = fault_by ⊥ long f (λ never. absurd never) is
 
 -- at a fault of a stream, for lack of memory, or if an answer can't be written
-module _ {A : Type 0} (head : List (List ℕ)) (known : Option (List ℕ)) (is_asked : Bool) (long : Type 0) (a b : Option (List ℕ)) (rose : Type 0)
-    (said : List ℕ) (heard : IsHeardUpTo head known is_asked said) where
+module _ {A : Type 0} (Heard : List ℕ → Type 0) (long : Type 0) (a b : Option (List ℕ)) (rose : Type 0) (said : List ℕ) (heard : Heard said) where
   pub at_stream : (r : Result A TraceFault) → Appends a b said → IsErrAnd r (IsFault ⊥) →
-      IfErr r (λ f. (s : List ℕ) × IsHeardUpTo head known is_asked s × IsFaultAfter long a b rose s f)
+      IfErr r (λ f. (s : List ℕ) × Heard s × IsFaultAfter long a b rose s f)
   at_stream (Ok x) w is = tt
   at_stream (Err f) w is = (said, heard, inl (fault_by ⊥ long f (λ never. absurd never) is, w))
 
   pub at_memory : (r : Result A TraceFault) → Appends a b said → IsErrAnd r (λ f. f ≡ fault.NoMemory) →
-      IfErr r (λ f. (s : List ℕ) × IsHeardUpTo head known is_asked s × IsFaultAfter long a b rose s f)
+      IfErr r (λ f. (s : List ℕ) × Heard s × IsFaultAfter long a b rose s f)
   at_memory (Ok x) w is = tt
   at_memory (Err f) w is = (said, heard, inl (subst (IsFault long) (sym is) tt, w))
 
   pub at_output : (r : Result A TraceFault) → AppendsFront a b said → rose → IsErrAnd r (λ f. f ≡ fault.Unwritten) →
-      IfErr r (λ f. (s : List ℕ) × IsHeardUpTo head known is_asked s × IsFaultAfter long a b rose s f)
+      IfErr r (λ f. (s : List ℕ) × Heard s × IsFaultAfter long a b rose s f)
   at_output (Ok x) w up is = tt
   at_output (Err f) w up is = (said, heard, inr (is, w, up))
 
@@ -515,8 +528,8 @@ all_too_long (Some bytes) now is_there line is long =
     subst (λ (texts : List (List ℕ)). 2 ^ 64 - 2 ≤ length texts) (sym is.2) there
 
 -- the head and the lines after it are all lines
-pub head_too_long : (old now : Option (List ℕ)) (is_there : Bool) (line : List ℕ) → IsNextLine old now line is_there →
-    (is_there && bytes_eq (strip_last 13 (strip_last 10 line)) (codes "trace 2")) ≡ true → IsTooLong (ahead true line) now → IsTooLong texts_of old
-head_too_long old now is_there line is head long =
-    let there : is_there ≡ true = (and_parts is_there (bytes_eq (strip_last 13 (strip_last 10 line)) (codes "trace 2")) head).0 in
+pub head_too_long : (head : List ℕ) (old now : Option (List ℕ)) (is_there : Bool) (line : List ℕ) → IsNextLine old now line is_there →
+    IsHead is_there line head → IsTooLong (ahead true line) now → IsTooLong texts_of old
+head_too_long head old now is_there line is e long =
+    let there : is_there ≡ true = (and_parts is_there (bytes_eq (strip_last 13 (strip_last 10 line)) head) e).0 in
     all_too_long old now true line (subst (IsNextLine old now line) there is) long

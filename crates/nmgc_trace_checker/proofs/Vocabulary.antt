@@ -1,7 +1,7 @@
 -- Every name of std, of the crates below and of this crate's definitions that the proofs speak of.
 pub use Rattle.nmgc_barrier_laws.specs.{Barrier.Watches, Cycle.Cycle, Cycle.MarksName, Cycle.watching, Hybrid.AreScanned, Hybrid.Hybrid, Hybrid.IsWatchedIn, Hybrid.WatchesIn, Hybrid.beginning, Hybrid.is_scanned, Hybrid.scanned_at_once, laws.Beside.barrier_theorem, laws.Beside.joint_theorem, laws.Finishing.some_finisher, laws.HybridBeside.hybrid_joint, laws.HybridFinishing.some_finisher_in, laws.HybridSafe.hybrid_safety}
 pub use Rattle.nmgc_journal.specs.{Reading.number_at, Reading.value_at, Reading.◌>>=◌, Text.IsValue, Text.name_text, Text.reply_text, Text.value_text, laws.Reading.Reads, laws.Reading.bind_some, laws.Reading.guard_some, laws.Reading.name_reads, laws.Reading.number_again, laws.Reading.number_takes, laws.Reading.value_reads}
-pub use Rattle.nmgc_trace_checker.specs.{Kept.IsKeptListed, Kept.ListsKept, Kept.rows_in, Notes.HasTried, Notes.IsNoted, Notes.IsSinceIn, Outcomes.AreLinesOf, Outcomes.AreMarkedLines, Outcomes.IsFault, Outcomes.IsFaultAfter, Outcomes.IsHeardUpTo, Outcomes.IsMarked, Outcomes.IsMarkedOf, Outcomes.IsOutcome, Outcomes.IsSince, Outcomes.IsTextAt, Outcomes.IsTooLong, Outcomes.IsWatchedBy, Outcomes.happened_of, Outcomes.head_texts, Outcomes.is_passed_of, Outcomes.is_refused, Outcomes.is_refused_there, Outcomes.no_counts, Outcomes.ok_to, Outcomes.oks, Outcomes.with_line, Outcomes.with_lines, Program.AreAnswered, Program.IsAnswerTo, Program.IsGravest, Program.IsResult, Program.Judged, Program.SaysAll, Program.is_live, Program.label_of, Program.rank, Program.status_of, Reading.IsCommandOf, Reading.IsLastIf, Reading.IsLastOf, Reading.IsLineBy, Reading.IsLineCommand, Reading.IsLineGiven, Meanings.IsMeaningBy, Meanings.IsMeaningOfRow, Meanings.IsMeaningOfRows, Reading.IsSpelled, Reading.IsSpelledIf, Reading.answered_at, Reading.byte_at, Reading.copying_of, Reading.onto_command, Reading.or_else, Reading.rows_if, Reading.script_head, Reading.short_at, Reports.Comes, Reports.EndsAtLine, Reports.Happens, Reports.IsHappening, Reports.IsRefusal, Reports.IsReport, Reports.report_of, Said.AreNames, Said.AreSaid, Said.IsCopying, Said.IsFilling, Said.IsGiven, Said.IsMutators, Said.IsNextLine, Said.IsPusher, Said.IsReply, Said.IsTakeOf, Said.Says, Said.SaysCore, Said.SaysEvent, Said.SaysLine, Said.ahead, Said.copy_words, Said.fill_words, Said.given_words, Said.names_words, Said.texts_of, Sentences.after_space, Sentences.outcome_text, Shown.IsPassedOn, Shown.IsShownAs, Shown.Writes, Shown.WritesLive, Shown.WritesOne, Trace.Can, Trace.IsAnswered, Trace.IsAnsweredIf, Trace.IsDrain, Trace.IsNext, Trace.IsTakeIf, Trace.MarksJust, Trace.Scans, Trace.next_if, Verdicts.IsVerdict, Verdicts.IsVerdictAfter, Verdicts.refusal_of, Whole.Closes, Whole.IsWholeReport}
+pub use Rattle.nmgc_trace_checker.specs.{Kept.IsKeptListed, Kept.ListsKept, Kept.rows_in, Notes.HasTried, Notes.IsNoted, Notes.IsSinceIn, Outcomes.AreLinesOf, Outcomes.AreMarkedLines, Outcomes.IsFault, Outcomes.IsFaultAfter, Outcomes.AreFields, Outcomes.AreFieldsBy, Outcomes.AreFieldsHeard, Outcomes.IsHeard, Outcomes.IsHeardUpTo, Outcomes.field_head_texts, Outcomes.happened_in, Outcomes.IsMarked, Outcomes.IsMarkedOf, Outcomes.IsOutcome, Outcomes.IsSince, Outcomes.IsTextAt, Outcomes.IsTooLong, Outcomes.IsWatchedBy, Outcomes.happened_of, Outcomes.head_texts, Outcomes.is_passed_of, Outcomes.is_refused, Outcomes.is_refused_there, Outcomes.no_counts, Outcomes.ok_to, Outcomes.oks, Outcomes.with_line, Outcomes.with_lines, Program.AreAnswered, Program.IsAnswerTo, Program.IsGravest, Program.IsResult, Program.Judged, Program.SaysAll, Program.is_live, Program.label_of, Program.rank, Program.status_of, Reading.IsCommandOf, Reading.IsLastIf, Reading.IsLastOf, Reading.IsLineBy, Reading.IsLineCommand, Reading.IsLineGiven, Meanings.IsMeaningBy, Meanings.IsMeaningOfRow, Meanings.IsMeaningOfRows, Reading.IsSpelled, Reading.IsSpelledIf, Reading.answered_at, Reading.byte_at, Reading.copying_of, Reading.onto_command, Reading.or_else, Reading.rows_if, Reading.script_head, Reading.short_at, Reports.Comes, Reports.EndsAtLine, Reports.Happens, Reports.IsHappening, Reports.IsRefusal, Reports.IsReport, Reports.report_of, Said.AreNames, Said.AreSaid, Said.IsCopying, Said.IsFilling, Said.IsGiven, Said.IsMutators, Said.IsNextLine, Said.IsPusher, Said.IsReply, Said.IsTakeOf, Said.Says, Said.SaysCore, Said.SaysEvent, Said.SaysLine, Said.ahead, Said.copy_words, Said.fill_words, Said.given_words, Said.names_words, Said.texts_of, Sentences.after_space, Sentences.outcome_text, Shown.IsPassedOn, Shown.IsShownAs, Shown.Writes, Shown.WritesLive, Shown.WritesOne, Trace.Can, Trace.IsAnswered, Trace.IsAnsweredIf, Trace.IsDrain, Trace.IsNext, Trace.IsTakeIf, Trace.MarksJust, Trace.Scans, Trace.next_if, Verdicts.IsVerdict, Verdicts.IsVerdictAfter, Verdicts.refusal_of, Whole.Closes, Whole.IsWholeReport}
 pub use Rattle.nmgc_trace_checker.specs.declared.{line.Line.Line, progress.Progress.Progress, reading.TraceFault.TraceFault, report.Begun.Begun, report.Refusal.Refusal, report.Report.Report, checker.Answer.Answer, checker.DueLine.DueLine, checker.TraceChecker.TraceChecker, counts.Counts.Counts, meaning.Meaning.Meaning, reading.Outcome.Outcome, status.Status.Status, verdict.Verdict.Verdict}
 pub use Rattle.nmgc_arguments.specs.{Output.text_bytes, declared.output.Text.Text}
 pub use Rattle.nmgc_io.specs.declared.ends.WriteEnd.{WriteEnd}

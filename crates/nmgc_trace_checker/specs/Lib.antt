@@ -1,4 +1,5 @@
 pub mod Borrowing
+pub mod FieldSentences
 pub mod Immediates
 pub mod Kept
 pub mod Meanings
@@ -10,6 +11,7 @@ pub mod Reports
 pub mod Said
 pub mod Sentences
 pub mod Shown
+pub mod Texts
 pub mod Trace
 pub mod Verdicts
 pub mod Whole

@@ -8,6 +8,10 @@ use Rattle.nmgc_barrier_checker.specs.declared.event.Event.{Event}
 use Rattle.nmgc_barrier_checker.specs.declared.event.Event.TheVariants as event
 use Rattle.nmgc_barrier_checker.specs.declared.event.Why.TheVariants as why
 use Rattle.nmgc_trace_checker.specs.{declared.line.Line.Line, declared.meaning.Meaning.Meaning, declared.reading.Outcome.Outcome, declared.reading.TraceFault.TraceFault, declared.report.Begun.Begun, declared.report.Report.Report, declared.counts.Counts.Counts, declared.verdict.Verdict.Verdict, Kept.ListsKept, Reports.ComeDue, Reports.Comes, Reports.IsReport, Reports.is_whole, Said.texts_of, Said.ahead, Said.AreSaid, Said.Says, Said.SaysLine, Verdicts.IsVerdict, Verdicts.is_passed, Whole.IsWholeReport}
+use Rattle.nmgc_field_reader.specs.{declared.counts.FieldCounts.FieldCounts, declared.report.FieldReport.FieldReport, FieldTraces.FieldTrace, FieldTraces.IsFieldReport, FieldTraces.nothing_yet}
+use Rattle.nmgc_field_reader.specs.FieldTraces.{Comes as FieldsCome, is_refused as is_refused_field, is_whole as is_whole_field}
+use Rattle.nmgc_field_reader.specs.FieldWhole.{IsWholeReport as IsWholeFieldReport}
+use Rattle.nmgc_field_reader.specs.declared.report.FieldReport.TheVariants as fields
 use Rattle.nmgc_trace_checker.specs.declared.meaning.Meaning.TheVariants as meaning
 use Rattle.nmgc_trace_checker.specs.declared.report.Begun.TheVariants as begun
 use Rattle.nmgc_trace_checker.specs.declared.report.Refusal.TheVariants as refusal
@@ -120,6 +124,44 @@ pub record AreAnswers (texts : List (List ℕ)) (is_asked : Bool) (said : List �
 abbrev pub IsHeardUpTo : List (List ℕ) → Option (List ℕ) → Bool → List ℕ → Type 0
 IsHeardUpTo head known is_asked said = (said ≡ []) ⊎ ((texts : List (List ℕ)) × AreLinesOf known (head ++ texts) true × AreAnswers texts is_asked said)
 
+-- FORMAT 3
+
+-- the head of a trace of format 3
+abbrev pub field_head_texts : List (List ℕ)
+field_head_texts = codes "trace 3" ∷ []
+
+-- of the lines after the head, those that happened: the lines before the refused one, or all. Line 2 is the first
+abbrev pub happened_in : FieldReport → List (List ℕ) → List (List ℕ)
+happened_in (fields.Refused n r) lines = take (n - 2) lines
+happened_in r lines = lines
+
+-- the answer to these lines of format 3, with the answers while they came: only an `ok` for each empty line that happened. The
+-- lines that happened are counted, and how often something came due in them
+pub record AreFieldsBy (texts : List (List ℕ)) (is_asked : Bool) (said : List ℕ) (r : FieldReport) (counts : FieldCounts) (dues : ℕ) : Type 0 where
+  pub report_is : IsFieldReport texts r counts dues
+  pub whole : IsWholeFieldReport texts r
+  pub said_is : said ≡ oks is_asked (happened_in r texts)
+
+-- the answer to a trace of format 3, with the answers while it came. If the bytes are known, its lines are the lines of these
+-- bytes, after this head
+abbrev pub AreFields : List (List ℕ) → Option (List ℕ) → Bool → List ℕ → FieldReport → FieldCounts → ℕ → Type 0
+AreFields head known is_asked said r counts dues = (texts : List (List ℕ)) × AreLinesOf known (head ++ texts) (is_refused_field r) ×
+    AreFieldsBy texts is_asked said r counts dues
+
+-- the answers to lines of format 3 that happened, each after the lines before it
+pub record AreFieldAnswers (texts : List (List ℕ)) (is_asked : Bool) (said : List ℕ) : Type 0 where
+  pub last : FieldTrace
+  pub comes : FieldsCome 2 nothing_yet texts last
+  pub said_is : said ≡ oks is_asked texts
+
+-- the answers while a trace of format 3 came, up to a fault: those to the first lines after this head, or none before the first
+abbrev pub AreFieldsHeard : List (List ℕ) → Option (List ℕ) → Bool → List ℕ → Type 0
+AreFieldsHeard head known is_asked said = (said ≡ []) ⊎ ((texts : List (List ℕ)) × AreLinesOf known (head ++ texts) true × AreFieldAnswers texts is_asked said)
+
+-- the answers while a trace of either format came, up to a fault
+abbrev pub IsHeard : Option (List ℕ) → Bool → List ℕ → Type 0
+IsHeard known is_asked said = IsHeardUpTo head_texts known is_asked said ⊎ AreFieldsHeard field_head_texts known is_asked said
+
 -- FORMAT 1
 
 -- the lines of format 1 that the texts say, in order: of all texts or, if the verdict refuses a line, up to that line
@@ -136,6 +178,7 @@ IsMarked known is_there line v = (lines : List Line) × IfSome known (λ rest. A
 -- the judged lines of known bytes in format 1, without a head: the texts say them in order, all or up to the refused line
 pub record IsMarkedOf (bytes : List ℕ) (lines : List Line) (v : Verdict) : Type 0 where
   pub no_head : (texts : List (List ℕ)) → texts_of bytes ≡ codes "trace 2" ∷ texts → ⊥
+  pub no_field_head : (texts : List (List ℕ)) → texts_of bytes ≡ codes "trace 3" ∷ texts → ⊥
   pub meaning : AreMarkedLines (texts_of bytes) lines v
 
 -- OUTCOMES
@@ -147,11 +190,13 @@ IsOutcome known is_asked said (outcome.Marked v) = (lines : List Line) × IfSome
     ListsKept lines v × (said ≡ [])
 IsOutcome known is_asked said (outcome.Watched answer) =
     IsWatched head_texts known is_asked said answer.report answer.counts answer.dues (option_map string_bytes answer.since)
+IsOutcome known is_asked said (outcome.Fields answer) = AreFields field_head_texts known is_asked said answer.report answer.counts answer.dues
 
 -- whether a trace passes: each line can happen, and the trace is whole or, in format 1, marking has ended
 abbrev pub is_passed_of : Outcome → Bool
 is_passed_of (outcome.Marked verdict) = is_passed verdict
 is_passed_of (outcome.Watched answer) = is_whole answer.report
+is_passed_of (outcome.Fields answer) = is_whole_field answer.report
 
 -- a fault of the trace, the reason why there is no outcome. There was no memory, or the trace couldn't be read for another
 -- cause. Or the trace is too long, and then `long` holds

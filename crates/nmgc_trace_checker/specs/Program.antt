@@ -17,7 +17,7 @@ use Rattle.std.specs.Prelude.{◌≡◌, ◌⊎◌, ◌≤◌, ℕ, List, [], �
 use Rattle.std.specs.{Str.bytes_eq, Io.KnownBytes.Appends}
 use Rattle.nmgc_io.specs.Text.{AppendsFront}
 use Rattle.nmgc_arguments.specs.Output.{IsWritten}
-use Rattle.nmgc_trace_checker.specs.{declared.program.Arguments.Arguments, declared.reading.Outcome.Outcome, declared.reading.TraceFault.TraceFault, declared.status.Status.Status, Outcomes.IsFault, Outcomes.IsHeardUpTo, Outcomes.IsOutcome, Outcomes.IsTooLong, Outcomes.head_texts, Outcomes.is_passed_of, Said.texts_of, Sentences.outcome_text}
+use Rattle.nmgc_trace_checker.specs.{declared.program.Arguments.Arguments, declared.reading.Outcome.Outcome, declared.reading.TraceFault.TraceFault, declared.status.Status.Status, Outcomes.IsFault, Outcomes.IsHeard, Outcomes.IsOutcome, Outcomes.IsTooLong, Outcomes.is_passed_of, Said.texts_of, Sentences.outcome_text}
 use Rattle.nmgc_trace_checker.specs.declared.program.Arguments.TheVariants as arguments
 use Rattle.nmgc_trace_checker.specs.declared.reading.TraceFault.TheVariants as fault
 use Rattle.nmgc_trace_checker.specs.declared.status.Status.TheVariants as status
@@ -60,7 +60,7 @@ is_live name = bytes_eq name (codes "--live")
 -- the trace was judged, with these answers while it came. Its bytes may be known
 abbrev pub IsJudged : Option (List ℕ) → Bool → List ℕ → Judged → Type 0
 IsJudged known is_asked said (Ok outcome) = IsOutcome known is_asked said outcome
-IsJudged known is_asked said (Err f) = IsFault (IsTooLong texts_of known) f × IsHeardUpTo head_texts known is_asked said
+IsJudged known is_asked said (Err f) = IsFault (IsTooLong texts_of known) f × IsHeard known is_asked said
 
 -- the status of an outcome
 abbrev pub status_of : Outcome → Status

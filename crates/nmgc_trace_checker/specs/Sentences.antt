@@ -1,23 +1,18 @@
 -- The texts of outcomes: the text that the program prints is a function of the outcome. `Program` has the texts of faults.
-use Rattle.std.specs.Prelude.{ℕ, List, [], ◌++◌, codes, decimal, string_bytes, Option, Some, None, ◌==◌, if◌then◌else◌}
+use Rattle.std.specs.Prelude.{ℕ, List, [], ◌++◌, codes, decimal, string_bytes, Option}
 use Rattle.std.specs.{List.flat_map, Option.option_map}
 use Rattle.nmgc_world_spec.specs.declared.value.Name.{Name}
 use Rattle.nmgc_barrier_laws.specs.declared.debt.Debt.{Debt}
 use Rattle.nmgc_barrier_checker.specs.declared.event.Why.{Why}
 use Rattle.nmgc_barrier_checker.specs.declared.event.Why.TheVariants as why
 use Rattle.nmgc_journal.specs.Text.{name_text, reply_text}
-use Rattle.nmgc_trace_checker.specs.declared.{counts.Counts.Counts, reading.Outcome.Outcome, report.Refusal.Refusal, report.Report.Report, verdict.Verdict.Verdict}
+use Rattle.nmgc_trace_checker.specs.{declared.counts.Counts.Counts, declared.reading.Outcome.Outcome, declared.report.Refusal.Refusal, declared.report.Report.Report, declared.verdict.Verdict.Verdict, FieldSentences.field_report_text, Texts.bracketed, Texts.counts_text}
 use Rattle.nmgc_trace_checker.specs.declared.reading.Outcome.TheVariants as outcome
 use Rattle.nmgc_trace_checker.specs.declared.report.Refusal.TheVariants as refusal
 use Rattle.nmgc_trace_checker.specs.declared.report.Report.TheVariants as report
 use Rattle.nmgc_trace_checker.specs.declared.verdict.Verdict.TheVariants as verdict
 
 -- REASONS
-
--- the text of a line, in brackets after a space, or nothing if there is none
-abbrev pub bracketed : Option (List ℕ) → List ℕ
-bracketed None = []
-bracketed (Some text) = codes " (" ++ text ++ codes ")"
 
 -- a reason that says something before or after a name
 abbrev pub named_text : List ℕ → Name → List ℕ → List ℕ
@@ -55,23 +50,6 @@ refusal_text refusal.Unknown since = codes "is none of a trace"
 refusal_text refusal.Misplaced since = codes "can't stand there"
 refusal_text (refusal.Event y) since = why_text y since
 
--- COUNTS
-
--- a number and a noun, in the singular or the plural
-abbrev pub counted_text : ℕ → List ℕ → List ℕ → List ℕ
-counted_text n one many = decimal n ++ (if n == 1 then one else many)
-
--- how often a name came due
-abbrev pub dues_text : ℕ → List ℕ
-dues_text n = if n == 0 then codes "; nothing came due, so no barrier was tried"
-    else if n == 1 then codes "; something came due once"
-    else codes "; something came due " ++ decimal n ++ codes " times"
-
--- the counts of a trace that passes, and how often a name came due
-abbrev pub counts_text : Counts → ℕ → List ℕ
-counts_text c dues = counted_text c.cycles (codes " cycle, ") (codes " cycles, ") ++ counted_text c.commands (codes " command, ") (codes " commands, ") ++
-    counted_text c.pushes (codes " push") (codes " pushes") ++ dues_text dues
-
 -- RESULTS
 
 -- the text of a report of format 2, with the counts of the lines, and the text of the line since which a name is due
@@ -98,3 +76,4 @@ verdict_text (verdict.Closed names) = codes "closed, kept" ++ flat_map after_spa
 abbrev pub outcome_text : Outcome → List ℕ
 outcome_text (outcome.Marked v) = verdict_text v
 outcome_text (outcome.Watched answer) = report_text answer.report answer.counts answer.dues (option_map string_bytes answer.since)
+outcome_text (outcome.Fields answer) = field_report_text answer.report answer.counts answer.dues answer.name.items (option_map string_bytes answer.since)

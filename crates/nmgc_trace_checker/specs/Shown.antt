@@ -4,7 +4,7 @@ use Rattle.std.specs.Io.KnownBytes.{Appends}
 use Rattle.nmgc_io.specs.{Text.AppendsFront, Text.Rose, declared.ends.WriteEnd.WriteEnd}
 use Rattle.nmgc_io.specs.declared.ends.WriteEnd.TheVariants.{WriteFault}
 use Rattle.nmgc_arguments.specs.{Output.text_bytes, declared.output.Text.Text}
-use Rattle.nmgc_trace_checker.specs.{declared.reading.TraceFault.TraceFault, declared.status.Status.Status, Outcomes.IsHeardUpTo, Outcomes.head_texts, Program.IsGravest, Program.IsJudged, Program.IsShown, Program.Judged}
+use Rattle.nmgc_trace_checker.specs.{declared.reading.TraceFault.TraceFault, declared.status.Status.Status, Outcomes.IsHeard, Program.IsGravest, Program.IsJudged, Program.IsShown, Program.Judged}
 use Rattle.nmgc_trace_checker.specs.declared.reading.TraceFault.TheVariants as fault
 
 -- these bytes were written, or a front of them and the output's count of faults rose
@@ -20,7 +20,7 @@ WritesOne says old new before now (Err e) = (said : List ℕ) × (ss : List Stat
 -- a trace was judged, and the answers while it came were written, or a front of them
 abbrev pub WritesLive : Option (List ℕ) → Bool → Option (List ℕ) → Option (List ℕ) → ℕ → ℕ → Result Judged WriteEnd → Type 0
 WritesLive known is_asked old new before now (Ok judged) = (said : List ℕ) × IsJudged known is_asked said judged × Appends old new said × (before ≤ now)
-WritesLive known is_asked old new before now (Err e) = (said : List ℕ) × IsHeardUpTo head_texts known is_asked said × AppendsFront old new said ×
+WritesLive known is_asked old new before now (Err e) = (said : List ℕ) × IsHeard known is_asked said × AppendsFront old new said ×
     Rose before now
 
 -- the status and the line of a result, without the argument before it: its text and a line feed

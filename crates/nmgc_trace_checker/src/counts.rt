@@ -1,6 +1,6 @@
 //! Counts of a trace's lines. A trace may pass without a test: if no name came due, any barrier passes. So dues are counted.
 ghost use Rattle.std.specs.Prelude.{◌≡◌, ◌++◌, codes, decimal, OnOk};
-ghost use Rattle.nmgc_trace_checker.specs.{Outcomes.with_event, Outcomes.with_line, Sentences.counted_text, Sentences.dues_text, Sentences.counts_text};
+ghost use Rattle.nmgc_trace_checker.specs.{Outcomes.with_event, Outcomes.with_line, Texts.counted_text, Texts.dues_text, Texts.counts_text};
 
 use crate::meaning::Meaning;
 use crate::sentence::push_text;

@@ -4,7 +4,8 @@
 //!   (`nmgc_core`) does the lines one by one, marker included.
 //! - Format 2: `meaning` is the meaning of a line, and `report` the result for a trace. `checker` finds it line by line, with
 //!   `counts` of the lines. `borrowing`: lines with values that no register holds, and `immediates`: commands with numbers or nil as operands. The barrier is watched (`nmgc_barrier_checker`). `sentence` spells the reason of a refusal.
-//! - `reading`: a trace of either format, read line by line.
+//! - Format 3: `nmgc_field_reader` judges its lines, and `field_sentence` spells its reports.
+//! - `reading`: a trace of any format, read line by line.
 //! - `program`: all arguments, the output and the `status`; only files, streams and the command line are left to the program.
 //!
 //! The judge of each format is proved over lists of lines: a refused line is the first that can't happen, and the lines
@@ -16,6 +17,7 @@ mod borrowing;
 mod checker;
 mod commands;
 mod counts;
+mod field_sentence;
 mod immediates;
 mod line;
 mod meaning;

@@ -5,7 +5,7 @@
 ghost use Rattle.std.specs.Prelude.{◌≡◌, ◌++◌, string_bytes, OnOk};
 ghost use Rattle.std.specs.Option.{option_map};
 ghost use Rattle.nmgc_journal.specs.Text.{reply_text};
-ghost use Rattle.nmgc_trace_checker.specs.Sentences.{bracketed, named_text, unscanned_text, debt_text, why_text, refusal_text};
+ghost use Rattle.nmgc_trace_checker.specs.{Sentences.debt_text, Sentences.named_text, Sentences.refusal_text, Sentences.unscanned_text, Sentences.why_text, Texts.bracketed};
 
 use crate::report::Refusal;
 use nmgc_barrier_checker::Why;
@@ -84,8 +84,8 @@ fn push_debt(out: &mut Vec<u8>, debt: Debt, since: &Option<String>) -> Result<()
     push_text(out, b", and nobody remembered it")
 }
 
-// Appends a text in brackets after a space, or nothing if there is no text.
-fn push_bracketed(out: &mut Vec<u8>, text: &Option<String>) -> Result<(), NoMemory>
+/// Appends a text in brackets after a space, or nothing if there is no text.
+pub(crate) fn push_bracketed(out: &mut Vec<u8>, text: &Option<String>) -> Result<(), NoMemory>
     ensures { OnOk result (out.new.items ≡ out.old.items ++ bracketed (option_map string_bytes text.now)) }
 {
     match text {

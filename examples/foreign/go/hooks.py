@@ -1,5 +1,5 @@
 #!/usr/bin/env python3
-"""Makes a copy of a Go installation whose runtime has the tracer's hooks: hooks.py GOROOT COPY.
+"""Makes a copy of a Go installation whose runtime has a tracer's hooks: hooks.py commands|fields GOROOT COPY.
 
 Only src/runtime is copied; all else are links. Each hook is inserted at one line of one function. The line is found by
 the words of its anchor, which must be there exactly once. No line of Go's is changed or removed."""
@@ -16,10 +16,12 @@ def planted(fault, then):
     return f'if NmgcFault == {fault} {{ {then} }}'
 
 
+# The assembly writes its pair the other way round than the rest of the runtime: so it is written again.
+OLD_FIRST = 'MOVQ R13, -16(R12)\n\tMOVQ AX, -8(R12)'
+
 # File, function, 'after' or 'before', anchor, hook. An empty anchor is the head of the function.
-HOOKS = [
-    # The assembly writes its pair the other way round: here it is written again, the old value first.
-    ('asm_amd64.s', 'gcWriteBarrier', 'after', 'R13, -8(R12)', 'MOVQ R13, -16(R12)\n\tMOVQ AX, -8(R12)'),
+COMMAND_HOOKS = [
+    ('asm_amd64.s', 'gcWriteBarrier', 'after', 'R13, -8(R12)', OLD_FIRST),
     ('mwbbuf.go', 'wbBufFlush1', 'after', 'gcw := &_p_.gcw', 'nmgcFlush(ptrs)'),
     ('mwbbuf.go', 'wbBufFlush1', 'after', 'mbits.setMarked', 'nmgcGreyed(obj)'),
     ('mgc.go', 'gcStart', 'after', 'setGCPhase(_GCmark)', 'NmgcLog(nmgcMark, 0, 0, 0)'),
@@ -36,6 +38,42 @@ HOOKS = [
     ('atomic_pointer.go', 'atomicwb', 'after', '', planted('nmgcNoAtomic', 'return')),
     ('chan.go', 'sendDirect', 'after', 'dst := sg.elem', planted('nmgcNoChannel', 'memmove(dst, src, t.size); return')),
 ]
+
+# The hooks for a program as it is. Each store of the compiler's barrier goes its slow way, which has the field's address.
+FIELD_HOOKS = [
+    ('asm_amd64.s', 'gcWriteBarrier', 'after', 'R13, -8(R12)', f'{OLD_FIRST}\n\tJMP flush'),
+    ('mwbbuf.go', 'wbBufFlush', 'before', 'systemstack(func()', 'if nmgcBarrier(dst, src) { return }'),
+    ('mwbbuf.go', 'wbBufFlush1', 'after', 'gcw := &_p_.gcw', 'nmgcFlush(ptrs)'),
+    ('mbitmap.go', 'bulkBarrierPreWrite', 'before', 's := spanOf(dst)', 'nmgcBulk(dst, src, size)'),
+    ('mbitmap.go', 'bulkBarrierPreWriteSrcOnly', 'before', 'buf := &getg()', 'nmgcBulk(dst, src, size)'),
+    ('chan.go', 'sendDirect', 'after', 'dst := sg.elem', 'nmgcSend(t, dst, src, getg().goid, sg.g.goid)'),
+    ('chan.go', 'recvDirect', 'after', 'src := sg.elem', 'nmgcSend(t, dst, src, sg.g.goid, getg().goid)'),
+    ('atomic_pointer.go', 'atomicstorep', 'before', 'atomic.StorepNoWB', 'nmgcAtomic((*unsafe.Pointer)(ptr), new)'),
+    ('atomic_pointer.go', 'sync_atomic_StorePointer', 'before', 'sync_atomic_StoreUintptr(', 'nmgcAtomic(ptr, new)'),
+    ('atomic_pointer.go', 'sync_atomic_SwapPointer', 'before', 'sync_atomic_SwapUintptr(', 'nmgcAtomic(ptr, new)'),
+    ('atomic_pointer.go', 'sync_atomic_CompareAndSwapPointer', 'after', '',
+     'if nmgcInCycle { return nmgcCompareAndSwap(ptr, old, new) }'),
+    ('mgcmark.go', 'gcmarknewobject', 'after', '', 'nmgcNew(span, obj)'),
+    ('proc.go', 'newproc1', 'after', 'newg.goid = int64', 'nmgcGoroutine(nmgcBorn, newg.goid, uintptr(unsafe.Pointer(fn)))'),
+    ('proc.go', 'goexit0', 'after', 'dropg()', 'nmgcGoroutine(nmgcGone, gp.goid, 0)'),
+    ('mgc.go', 'gcStart', 'after', 'setGCPhase(_GCmark)', 'nmgcMarkBegins()'),
+    ('mgc.go', 'gcMarkTermination', 'after', 'gcMark(startTime)', 'nmgcMarked()'),
+    ('mgcmark.go', 'gcMarkTinyAllocs', 'before', 'gcw := &p.gcw', 'nmgcRemembered(c.tiny)'),
+    ('mgcmark.go', 'markrootSpans', 'before', 'scanobject(p, gcw)',
+     'nmgcOpened(p); nmgcRemembered(uintptr(unsafe.Pointer(spf.fn)))'),
+    ('mheap.go', 'addfinalizer', 'before', 'scanobject(base, gcw)',
+     'nmgcOpened(base); nmgcRemembered(uintptr(unsafe.Pointer(s.fn)))'),
+    ('mgcmark.go', 'scanobject', 'after', 'findObject(obj, b, i)', 'nmgcRead(b, i, obj)'),
+    ('mgcmark.go', 'scanblock', 'after', 'findObject(p, b, i)',
+     'if stk != nil { nmgcRecord(nmgcHeld, uintptr(unsafe.Pointer(stk)), obj, 0) }'),
+    ('mgcmark.go', 'scanConservative', 'after', 'obj := span.base()',
+     'if state != nil { nmgcRecord(nmgcHeld, uintptr(unsafe.Pointer(state)), obj, 0) }'),
+    ('mgcmark.go', 'scanstack', 'before', 'return int64(scannedSize)',
+     'nmgcRecord(nmgcScan, uintptr(unsafe.Pointer(&state)), uintptr(gp.goid), 0)'),
+    ('mgcsweep.go', 'sweep', 'before', 'if hadSpecials && s.specials == nil', 'nmgcSweep(s)'),
+]
+
+TRACERS = {'commands': ('nmgc_log.go', COMMAND_HOOKS), 'fields': ('nmgc_fields.go', FIELD_HOOKS)}
 
 
 def copy_of(goroot, copy):
@@ -82,14 +120,15 @@ def insert(runtime, hook):
 
 
 def main():
-    goroot, copy = map(os.path.realpath, sys.argv[1:])
+    file, hooks = TRACERS[sys.argv[1]]
+    goroot, copy = map(os.path.realpath, sys.argv[2:])
     with open(f'{goroot}/VERSION', encoding='utf-8') as version:
         if version.read().split()[0] != VERSION:
             sys.exit(f'{goroot} is not {VERSION}: its hooks have other places')
     runtime = copy_of(goroot, copy)
-    for hook in HOOKS:
+    for hook in hooks:
         insert(runtime, hook)
-    shutil.copy(f'{os.path.dirname(os.path.abspath(__file__))}/nmgc_log.go', runtime)
+    shutil.copy(f'{os.path.dirname(os.path.abspath(__file__))}/{file}', runtime)
 
 
 if __name__ == '__main__':

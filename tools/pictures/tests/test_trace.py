@@ -144,7 +144,9 @@ class Traces(unittest.TestCase):
 
     def test_what_is_told_of_the_rows(self):
         for words, text, written in rows("nmgc_trace"):
-            if words == ["-"]:
+            if text.startswith("trace 3\n"):
+                self.assertEqual(told(text), "a trace without registers has no picture")
+            elif words == ["-"]:
                 self.assertEqual(f"-: {told(text)}\n", written, text)
 
     def test_more_traces(self):

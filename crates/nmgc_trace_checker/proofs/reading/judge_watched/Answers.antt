@@ -1,4 +1,4 @@
-use Rattle.nmgc_trace_checker.proofs.Vocabulary.{IsTooLong, ok_to, ahead, AppendsFront, Rose, List, [], ap, arith, inl, string_bytes, subst, true, ℕ, ◌++◌, ◌∙◌, ◌≡◌, Appends, option_map, strip_last}
+use Rattle.nmgc_trace_checker.proofs.Vocabulary.{IsHeardUpTo, IsTooLong, ok_to, ahead, AppendsFront, Rose, List, [], ap, arith, inl, string_bytes, subst, true, ℕ, ◌++◌, ◌∙◌, ◌≡◌, Appends, option_map, strip_last}
 use Rattle.nmgc_trace_checker.proofs.{Appended.appends_on, Appended.front_then, Appended.rose_since, Readings.after_the_head, Readings.at_memory, Readings.at_output, Readings.at_stream, Readings.heard_up_to, Readings.known_ended, Readings.known_refused, Readings.one_more, Readings.watched_too_long}
 use Rattle.nmgc_trace_checker.proofs.reading.judge_watched.Goals as goal
 
@@ -56,7 +56,7 @@ returns-in_err-next_line-clause-fault g c =
     let b = g.K.Sink.taken c.loop-number.answers in
     let rose = Rose (g.K.Sink.faults c.args.answers.now) (g.K.Sink.faults c.loop-number.answers) in
     let i = c.loop-number.invariant in
-    at_stream [] known c.args.is_asked (IsTooLong (ahead true (string_bytes c.args.text)) known) (g.K.Sink.taken c.args.answers.now) b rose i.said
+    at_stream (IsHeardUpTo [] known c.args.is_asked) (IsTooLong (ahead true (string_bytes c.args.text)) known) (g.K.Sink.taken c.args.answers.now) b rose i.said
     (heard_up_to _ _ _ _ _ _ i.so_far) c.from_residual.result i.written c.from_residual.ensures.1
 
 pub returns-in_err-refused-clause-fault : goal.returns-in_err-refused-clause-fault
@@ -65,7 +65,7 @@ returns-in_err-refused-clause-fault g c =
     let b = g.K.Sink.taken c.loop-number.answers in
     let rose = Rose (g.K.Sink.faults c.args.answers.now) (g.K.Sink.faults c.loop-number.answers) in
     let i = c.loop-number.invariant in
-    at_memory [] known c.args.is_asked (IsTooLong (ahead true (string_bytes c.args.text)) known) (g.K.Sink.taken c.args.answers.now) b rose i.said
+    at_memory (IsHeardUpTo [] known c.args.is_asked) (IsTooLong (ahead true (string_bytes c.args.text)) known) (g.K.Sink.taken c.args.answers.now) b rose i.said
     (heard_up_to _ _ _ _ _ _ i.so_far) c.from_residual-in_err-refused.result i.written c.from_residual-in_err-refused.ensures.1
 
 pub returns-in_err-answer-clause-fault : goal.returns-in_err-answer-clause-fault
@@ -74,7 +74,7 @@ returns-in_err-answer-clause-fault g c =
     let b = g.K.Sink.taken c.loop-number.answers in
     let rose = Rose (g.K.Sink.faults c.args.answers.now) (g.K.Sink.faults c.loop-number.answers) in
     let i = c.loop-number.invariant in
-    at_memory [] known c.args.is_asked (IsTooLong (ahead true (string_bytes c.args.text)) known) (g.K.Sink.taken c.args.answers.now) b rose i.said
+    at_memory (IsHeardUpTo [] known c.args.is_asked) (IsTooLong (ahead true (string_bytes c.args.text)) known) (g.K.Sink.taken c.args.answers.now) b rose i.said
     (heard_up_to _ _ _ _ _ _ i.so_far) c.from_residual-in_err-answer.result i.written c.from_residual-in_err-answer.ensures.1
 
 pub returns-in_err-write_all-clause-fault : goal.returns-in_err-write_all-clause-fault
@@ -92,7 +92,7 @@ returns-in_err-write_all-clause-fault g c =
     let next = one_more known (g.R.Read.remaining c.loop-number.reader) (g.R.Read.remaining c.next_line.new.reader) c.args.is_asked _
     c.loop-number.number c.loop-number.checker c.judge_line.new.self i.said (string_bytes c.next_line.new.text) line i.so_far c.if-not-branch.false
     c.in_ok-next_line.ensures text _ c.in_default.is c.in_ok-refused.ensures in
-    at_output [] known c.args.is_asked (IsTooLong (ahead true (string_bytes c.args.text)) known) a end (Rose m o) (i.said ++ ok_to c.args.is_asked line)
+    at_output (IsHeardUpTo [] known c.args.is_asked) (IsTooLong (ahead true (string_bytes c.args.text)) known) a end (Rose m o) (i.said ++ ok_to c.args.is_asked line)
     (heard_up_to _ _ _ _ _ _ next) c.from_residual-in_err-write_all.result
     (front_then a b end i.said (ok_to c.args.is_asked line) i.written (subst (AppendsFront b end) c.ok_to.ensures c.in_err-write_all.ensures.err))
     (rose_since m (g.K.Sink.faults c.loop-number.answers) o i.later c.in_err-write_all.ensures.fault) c.from_residual-in_err-write_all.ensures.1

@@ -1,6 +1,6 @@
 use Rattle.std.specs.{Prelude.decimal, Option.option_map}
 use Rattle.nmgc_journal.specs.Text.{name_text}
-use Rattle.nmgc_trace_checker.specs.Sentences.{bracketed}
+use Rattle.nmgc_trace_checker.specs.Texts.{bracketed}
 use Rattle.nmgc_trace_checker.proofs.{Vocabulary.codes, Vocabulary.string_bytes, Vocabulary.on_ok_weaker, Appended.pushed_six}
 use Rattle.nmgc_trace_checker.proofs.sentence.push_debt.Goals as goal
 

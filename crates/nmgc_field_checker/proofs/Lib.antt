@@ -1,0 +1,25 @@
+pub mod AccountLaws
+pub mod ChangeLaws
+pub mod ChosenLaws
+pub mod CycleLaws
+pub mod EarliestLaws
+pub mod EndLaws
+pub mod FirstLaws
+pub mod FollowLaws
+pub mod GoneLaws
+pub mod HeapChanges
+pub mod HeapStores
+pub mod LentStores
+pub mod LineLaws
+pub mod MissingLaws
+pub mod NoteLaws
+pub mod NumberLaws
+pub mod OpenLaws
+pub mod PlaceLaws
+pub mod ReachLaws
+pub mod RefusalLaws
+pub mod ReportLaws
+pub mod SetLaws
+pub mod StoreLaws
+mod Vocabulary
+pub mod WatchLaws

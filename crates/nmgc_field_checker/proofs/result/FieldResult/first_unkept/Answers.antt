@@ -1,0 +1,16 @@
+use Rattle.nmgc_field_checker.proofs.{Vocabulary.Contains, Vocabulary.never, Vocabulary.refl, Vocabulary.ℕ, FirstLaws.first_here, FirstLaws.none_all, FirstLaws.none_more, FirstLaws.none_yet}
+use Rattle.nmgc_field_checker.proofs.result.FieldResult.first_unkept.Goals as goal
+
+pub loop-object-init : goal.loop-object-init
+loop-object-init c = none_yet (λ (n : ℕ). Contains c.args.self.now.kept.items n → ⊥) c.args.objects.now
+
+pub loop-object-preserved : goal.loop-object-preserved
+loop-object-preserved c =
+    none_more (λ (n : ℕ). Contains c.args.self.now.kept.items n → ⊥) c.args.objects.now c.loop-object.object-index 0 c.loop-object-test.true c.loop-object.invariant (λ out. out (c.if-not-is_kept.ensures.0 refl))
+
+pub returns-then-not-is_kept : goal.returns-then-not-is_kept
+returns-then-not-is_kept c =
+    first_here (λ (n : ℕ). Contains c.args.self.now.kept.items n → ⊥) c.args.objects.now c.loop-object.object-index 0 c.loop-object-test.true c.loop-object.invariant (λ h. never (c.if-not-is_kept.ensures.1 h))
+
+pub returns : goal.returns
+returns c = none_all (λ (n : ℕ). Contains c.args.self.now.kept.items n → ⊥) c.args.objects.now c.loop-object.object-index c.loop-object-test.false c.loop-object.invariant

@@ -1,0 +1,5 @@
+pub mod FieldLines
+pub mod FieldReading
+pub mod FieldTraces
+pub mod FieldWhole
+pub mod laws
