@@ -1,5 +1,5 @@
 -- A command is read exactly from its spelling.
-use Rattle.nmgc_script.proofs.Vocabulary.{arith, ◌≡◌, ◌≤◌, ◌<◌, length, ℕ, List, [], ◌∷◌, map, refl, sym, ap, ◌∙◌, subst, decimal, leb, Result, Ok, le-leb, leb-true, All-from_recursion, recursion_from_All, Command, Num, Nil, Mov, Con, Var, Arr, Rec, Thunk, Weak, Stack, Get, Tag, Set, Cas, Update, Force, Push, Pop, Deref, Finalise, NextFin, Show, Same, Yield, Collect, Full, IsOperandBelow, HasRegistersBelow, HasNumbers, words_made, Fits, Cause, Verb, Version, IsUsable, registers_wider, register_word, operand_word, verb_name, command_words, ◌>>=◌, none_at, operands_at, has_verb, verb_at, first_of, true, IsOf, IsSince, sized, command_at}
+use Rattle.nmgc_script.proofs.Vocabulary.{Gives, IfOk, LineFault, Err, inr, version_3, usable_version, arith, ◌≡◌, ◌≤◌, ◌<◌, length, ℕ, List, [], ◌∷◌, map, refl, sym, ap, ◌∙◌, subst, decimal, leb, Result, Ok, le-leb, leb-true, All-from_recursion, recursion_from_All, Command, Num, Nil, Mov, Con, Var, Arr, Rec, Thunk, Weak, Stack, Get, Tag, Set, Cas, Update, Force, Push, Pop, Deref, Finalise, NextFin, Show, Same, Yield, Collect, Full, IsOperandBelow, HasRegistersBelow, HasNumbers, words_made, Fits, Cause, Verb, Version, IsUsable, registers_wider, register_word, operand_word, verb_name, command_words, ◌>>=◌, none_at, operands_at, has_verb, verb_at, first_of, true, IsOf, IsSince, sized, command_at}
 use Rattle.nmgc_script.specs.declared.fault.Cause.TheVariants as cause
 use Rattle.nmgc_script.specs.declared.verbs.Verb.TheVariants as verb
 use Rattle.nmgc_script.proofs.{WordLaws.Reads, WordLaws.bind_ok, WordLaws.guard_ok, WordLaws.ok_is, WordLaws.register_reads, WordLaws.operand_reads, VerbLaws.verb_takes, VerbLaws.verb_again, VerbLaws.verb_since, ShapeLaws.long_reads, ShapeLaws.short_reads, ShapeLaws.one_reads, ShapeLaws.two_reads, ShapeLaws.three_reads, ShapeLaws.four_reads, ShapeLaws.con_reads, ShapeLaws.values_reads}
@@ -280,3 +280,10 @@ command_again ver usable size c h = let r = words_read ver usable c h.1.0 h.0.nu
 -- a command is read exactly from its tokens
 pub command_reads : (ver : Version) (usable : IsUsable ver) (size : ℕ) → Reads (command_at ver size) command_words (Fit ver size)
 command_reads ver usable size = record { takes = command_takes ver usable size; again = command_again ver usable size }
+
+-- a command that was read fits
+pub gives_fitting : (ver : Version) (size : ℕ) (tokens : List (List ℕ)) (r : Result Command LineFault) → ver ≡ version_3 → Gives r (command_at ver size tokens) →
+    IfOk r (λ c. Fits size c)
+gives_fitting ver size tokens (Ok c) third h = ((command_reads version_3 (usable_version version_3 (inr (inr refl))) size).takes tokens c
+    (subst (λ (v : Version). command_at v size tokens ≡ Ok c) third h)).1.0
+gives_fitting ver size tokens (Err f) third h = tt
