@@ -46,14 +46,14 @@ pub record HasGiven (old new : CommandQueue) : Type 0 where
   pub answered : (c : Command) → next_in old ≡ Some c → new.answered ≡ old.answered ++ c ∷ []
   pub accepted : new.accepted ≡ old.accepted
 
--- a queue between two calls: its commands fit, and are few enough for a script. Those that were answered and those that wait are
--- the accepted commands, with pauses between them
+-- a queue between two calls: its commands fit, and are few enough for a script. The accepted commands are those that were
+-- answered, with pauses between them, and then those that wait
 pub record IsQueue (q : CommandQueue) : Type 0 where
   pub pause : q.pause ≡ Yield
   pub answered_fit : All (Fits q.words) q.answered
   pub waiting_fit : All (Fits q.words) q.waiting.items
   pub few : length q.answered + most_in q ≤ most_script_bytes
-  pub paused : WithPauses q.accepted (q.answered ++ q.waiting.items)
+  pub past : (given : List Command) × (q.accepted ≡ given ++ q.waiting.items) × WithPauses given q.answered
 
 -- commands that may come first in an open session: those that wait, or any if none waits
 abbrev pub MayComeFirst : List Command → List Command → Type 0

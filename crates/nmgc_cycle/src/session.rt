@@ -17,6 +17,7 @@ ghost use Rattle.nmgc_run_laws.specs.Limits.{FitsRun};
 ghost use Rattle.nmgc_run_spec.specs.Lawful.{IsRunOf};
 ghost use Rattle.nmgc_journal.specs.declared.report.End.{End as EndSeen};
 ghost use Rattle.nmgc_cycle.specs.{Keeps.HasAnswered, Keeps.HasEnded, Observed.HandsOn, Programs.SomeGives, Sessions.AreEmptyQueues, Sessions.BeginsSession, Sessions.HasPushedAt, Sessions.HasPushedTo, Sessions.HasRoom, Sessions.HasSameLines, Sessions.HavePauses, Sessions.HaveRoom, Sessions.HaveRoomAll, Sessions.IsQueue, Sessions.IsSession, Sessions.accepted_in, Sessions.next_in, Sessions.script_in, Sessions.with_pause, Shown.HasNamesOnce, Shown.report_of};
+ghost use Rattle.nmgc_cycle.specs.declared.stop.StopEnd.TheVariants as answer;
 ghost use Rattle.nmgc_cycle.specs.declared.command_queue.CommandQueue.{CommandQueue as QueueSeen};
 
 use crate::asking::is_some_left;
@@ -115,7 +116,8 @@ impl Session {
         })
     }
 
-    /// Does a stop, and returns its answer, as `Collector::stop` does. While the session is open, commands count as left.
+    /// Does a stop, and returns its answer, as `Collector::stop` does. While the session is open, commands count as left, so
+    /// the answer isn't `Done`.
     pub fn stop<R: Threads + Sync>(
         &mut self,
         rt: &R,
@@ -125,6 +127,7 @@ impl Session {
         ensures session { OnOk result (IsSession false self.new) }
         ensures rest { OnOk result (self.new ≡ record self.old { collector = self.new.collector }) }
         ensures answered { IfOk result (λ end. HasAnswered (script_in self.new) self.new.collector end) }
+        ensures done { IfOk result (λ end. end ≡ answer.Done → self.old.is_open ≡ false) }
         ensures ended { OnOk result ((end : EndSeen) → HasEnded (script_in self.new) self.new.collector end →
             IsRunOf (script_in self.new) (report_of self.new.collector end)) }
         ensures rounds { OnOk result (self.new.collector.rows.rounds ≡ self.old.collector.rows.rounds) }

@@ -25,7 +25,7 @@
 //! 5. Begin (`try_begin`, by `do_due_cycle`). If step 4 wasn't done and a cycle is due (`is_due`), it begins (`start`).
 //! 6. Answer (`stop`). The row gets the numbers of the heap that this stop leaves. The answer is chosen: the run goes on, is
 //!    done, or has a full heap. An end is kept in `answered`.
-ghost use Rattle.std.specs.Prelude.{ℕ, ◌≡◌, ◌↔◌, ◌^◌, ◌<◌, [], ◌∷◌, ◌++◌, IfOk, OnOk, IsSome, IsTrue, None, Some, length, slice_get};
+ghost use Rattle.std.specs.Prelude.{ℕ, ◌≡◌, ◌↔◌, ◌^◌, ◌<◌, [], ◌∷◌, ◌++◌, IfOk, OnOk, IsSome, IsTrue, None, Some, length, slice_get, false};
 ghost use Rattle.nmgc_stop_spec.specs.Stopped.{Stopped};
 ghost use Rattle.nmgc_minor.specs.Promotion.{IsFor};
 ghost use Rattle.nmgc_cycle.specs.{Cycles.MarksOn, Shown.turns_of, Shown.upper_turns_of, Shown.mutator_turns_of, Keeps.CanStop, Keeps.HasAnswered, Keeps.StopsAfter, Stopping.StandsStopped, Stopping.CanList, Stopping.HasListed, Stopping.HasPromoted, Stopping.SomeIsLeft, Stopping.IsDone, Stopping.IsHeapFullAt, Stopping.ended_by, Keeps.NothingReachableIsFreed, Programs.FollowEach, Observed.HandsOn, Open.MayBeScript};
@@ -169,7 +169,8 @@ impl Collector {
     }
 
     // Does a stop of a run whose script isn't known yet, as `stop` does, and returns its answer. `left` says whether any program
-    // has commands left. The stop is the same for every script in whose run it may be done, and there has to be one.
+    // has commands left: then the run isn't done. The stop is the same for every script in whose run it may be done, and there
+    // has to be one.
     pub(crate) fn stop_open<R: Threads + Sync>(
         &mut self,
         rt: &R,
@@ -179,6 +180,7 @@ impl Collector {
     ) -> Result<StopEnd, NoMemory>
         requires may { (script : ScriptSeen) × MayBeScript config.now left self.old script }
         ensures each { IfOk result (λ end. (script : ScriptSeen) → MayBeScript config.now left self.old script → HasAnswered script self.new end) }
+        ensures done { IfOk result (λ end. end ≡ answer.Done → left ≡ false) }
         ensures positions { OnOk result (self.new.positions.items ≡ self.old.positions.items) }
         ensures rounds { OnOk result (self.new.rows.rounds ≡ self.old.rows.rounds) }
         ensures stops { OnOk result ((row : StopRow) × (self.new.rows.stops ≡ self.old.rows.stops ++ row ∷ []) × (rows.new.stop ≡ Some row) × (row.number ≡ length self.old.rows.stops)) }
@@ -187,7 +189,8 @@ impl Collector {
         let script = Witness::of::<(&Config, &Collector, bool), StopScript>(&(
             config, &*self, left,
         ));
-        self.do_stop(rt, config.trigger, &script, left, rows)
+        let answer = self.do_stop(rt, config.trigger, &script, left, rows)?;
+        Ok(answer)
     }
 
     // Does a stop of the run of this script, and returns its answer. `left` says whether any program has commands left.

@@ -3,8 +3,18 @@ use Rattle.nmgc_cycle.proofs.Vocabulary.{ℕ, ◌≡◌, ◌+◌, ◌*◌, ◌<�
 use Rattle.nmgc_limits.specs.Limits.{most_script_bytes}
 use Rattle.nmgc_script.specs.Spelling.{version_3}
 use Rattle.nmgc_world_spec.specs.declared.command.Command.TheVariants.{Yield}
-use Rattle.nmgc_cycle.specs.{Sessions.HasPushed, Sessions.HasPushedAt, Sessions.HasRoom, Sessions.HavePauses, Sessions.HaveRoomAll, Sessions.IsQueue, Sessions.IsRest, Sessions.IsScriptOfSession, Sessions.IsSession, Sessions.MayComeFirst, Sessions.WithPauses, Sessions.accepted_in, Sessions.first_of, Sessions.left_in, Sessions.next_in, Sessions.pause_in, Sessions.with_pause, laws.Queues.first_is, laws.Queues.pause_among, laws.Queues.pause_fits, laws.Queues.pauses_push, laws.Queues.pause_small}
+use Rattle.nmgc_cycle.specs.{Sessions.HasPushed, Sessions.HasPushedAt, Sessions.HasRoom, Sessions.HavePauses, Sessions.HaveRoomAll, Sessions.IsQueue, Sessions.IsRest, Sessions.IsScriptOfSession, Sessions.IsSession, Sessions.MayComeFirst, Sessions.WithPauses, Sessions.accepted_in, Sessions.first_of, Sessions.left_in, Sessions.next_in, Sessions.pause_in, Sessions.with_pause, laws.Queues.first_is, laws.Queues.pause_fits, laws.Queues.pause_small, laws.Queues.pauses_more, laws.Queues.pauses_push}
 use Rattle.nmgc_cycle.proofs.{lists.MutatorLists.vec_back, sessions.Rests.maps_same}
+
+-- a queue without commands
+pub empty_queue : (q : CommandQueue) → q.pause ≡ Yield → q.waiting.items ≡ [] → q.accepted ≡ [] → q.answered ≡ [] → q.can_pause ≡ false → IsQueue q
+empty_queue q pause waiting accepted answered none = record {
+  pause = pause;
+  answered_fit = rw (answered) (All-nil (Fits q.words));
+  waiting_fit = rw (waiting) (All-nil (Fits q.words));
+  few = rw (answered, waiting, none) (omega (arith));
+  past = ([], accepted ∙ sym waiting, subst (λ (l : List Command). WithPauses [] l) (sym answered) refl);
+}
 
 -- a queue that may give a pause
 pub paused_queue : (q : CommandQueue) → IsQueue q → length q.answered + length q.waiting.items + 1 ≤ most_script_bytes → IsQueue (with_pause q)
@@ -13,7 +23,7 @@ paused_queue q h room = record {
   answered_fit = h.answered_fit;
   waiting_fit = h.waiting_fit;
   few = (let long = length-append q.waiting.items (pause_in true) in let small = pause_small true in omega (arith, room, long, small));
-  paused = h.paused;
+  past = h.past;
 }
 
 -- an item of a mapped list comes from one
@@ -192,8 +202,12 @@ pushed_queue q r c h room fits p =
           let small = pause_small r.can_pause in
           let size = ap (λ (l : List Command). length l) answered in
           omega (arith, room, long, sum, both, small, size));
-      paused = rw (p.accepted, answered, p.waiting) (subst (λ (l : List Command). WithPauses (q.accepted ++ c ∷ []) l)
-          (append_assoc q.answered q.waiting.items (c ∷ [])) (pauses_push q.accepted (q.answered ++ q.waiting.items) c h.paused));
+      past = (
+        h.past.0,
+        p.accepted ∙ ap (λ (l : List Command). l ++ c ∷ []) h.past.1 ∙ append_assoc h.past.0 q.waiting.items (c ∷ [])
+            ∙ ap (λ (l : List Command). h.past.0 ++ l) (sym p.waiting),
+        subst (λ (l : List Command). WithPauses h.past.0 l) (sym answered) h.past.2,
+      );
     }
 
 -- a queue whose first command was answered, and one whose pause was answered
@@ -216,8 +230,11 @@ given_first q r c h same first answered =
           let later = length-append r.waiting.items (pause_in r.can_pause) in
           let same_pause = ap (λ (b : Bool). length (pause_in b)) may in
           omega (arith, few, long, size, sum, before, later, same_pause));
-      paused = rw (accepted, answered) (subst (λ (l : List Command). WithPauses q.accepted l) (sym (append_assoc q.answered (c ∷ []) r.waiting.items))
-          (subst (λ (l : List Command). WithPauses q.accepted (q.answered ++ l)) first h.paused));
+      past = (
+        h.past.0 ++ c ∷ [],
+        accepted ∙ h.past.1 ∙ ap (λ (l : List Command). h.past.0 ++ l) first ∙ sym (append_assoc h.past.0 (c ∷ []) r.waiting.items),
+        subst (λ (l : List Command). WithPauses (h.past.0 ++ c ∷ []) l) (sym answered) (pauses_push h.past.0 q.answered c h.past.2),
+      );
     }
 
 drop_same : (l : List Command) → l ≡ drop 1 l → l ≡ []
@@ -244,7 +261,11 @@ given_pause q r c h same left rest next answered =
           let gone = ap (λ (l : List Command). length l) empty in
           let no_pause = ap (λ (b : Bool). length (pause_in b)) may in
           omega (arith, few, one, size, sum, later, gone, no_pause));
-      paused = rw (accepted, yields, empty) (pause_among q.accepted q.answered [] (subst (λ (l : List Command). WithPauses q.accepted (q.answered ++ l)) none h.paused));
+      past = (
+        h.past.0,
+        accepted ∙ h.past.1 ∙ ap (λ (l : List Command). h.past.0 ++ l) left,
+        subst (λ (l : List Command). WithPauses h.past.0 l) (sym yields) (pauses_more h.past.0 q.answered true h.past.2),
+      );
     }
 
 -- all queues, with pauses, back in their list

@@ -7,6 +7,16 @@ some_first : (waiting rest : List Command) → MayComeFirst waiting rest → 0 <
 some_first [] rest h = h
 some_first (c ∷ waiting) rest h = let size = ap (λ (l : List Command). length l) h.1 in omega (arith, size)
 
+-- no command is left
+pub not_left : (left : Bool) (P : Type 0) → IsTrue left ↔ P → (P → ⊥) → left ≡ false
+not_left true P h none = absurd (none (h.0 refl))
+not_left false P h none = refl
+
+-- a session is closed if no command is left
+pub closed_by_none : (b left : Bool) → (b ≡ true → left ≡ true) → left ≡ false → b ≡ false
+closed_by_none true left h none = absurd (let is_left = h refl in cc)
+closed_by_none false left h none = refl
+
 module _ (s : Session) (is : IsSession true s) where
   -- in an open session commands are left
   left_open : (t : Script) → IsScriptOfSession s t → s.is_open ≡ true → SomeIsLeft t.threads s.collector.positions.items

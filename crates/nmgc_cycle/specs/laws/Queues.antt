@@ -45,7 +45,7 @@ left_fits q h = All-append (Fits q.words) q.waiting.items (pause_in q.can_pause)
 pub queue_waits : (q : CommandQueue) (c : Command) → IsQueue q → next_in q ≡ Some c → Fits q.words c × (0 < most_in q)
 queue_waits q c h e = first_fits q.words (left_in q) c (left_fits q h) e
 
--- commands with pauses: more pauses behind them, more commands behind them, and one pause among them
+-- commands with pauses: more pauses behind them, more commands behind them, and no pauses
 pub pauses_more : (commands program : List Command) (b : Bool) → WithPauses commands program → WithPauses commands (program ++ pause_in b)
 pauses_more commands [] true h = inr (refl, h)
 pauses_more commands [] false h = h
@@ -57,10 +57,19 @@ pauses_push commands [] c h = inl ([], ap (λ (l : List Command). l ++ c ∷ [])
 pauses_push commands (d ∷ program) c (inl h) = inl (h.0 ++ c ∷ [], ap (λ (l : List Command). l ++ c ∷ []) h.1, pauses_push h.0 program c h.2)
 pauses_push commands (d ∷ program) c (inr h) = inr (h.0, pauses_push commands program c h.1)
 
-pub pause_among : (commands answered waiting : List Command) → WithPauses commands (answered ++ waiting) → WithPauses commands ((answered ++ Yield ∷ []) ++ waiting)
-pause_among commands [] waiting h = inr (refl, h)
-pause_among commands (c ∷ answered) waiting (inl h) = inl (h.0, h.1, pause_among h.0 answered waiting h.2)
-pause_among commands (c ∷ answered) waiting (inr h) = inr (h.0, pause_among commands answered waiting h.1)
+pub pauses_none : (commands : List Command) → WithPauses commands commands
+pauses_none [] = refl
+pauses_none (c ∷ commands) = inl (commands, refl, pauses_none commands)
+
+pub pauses_join : (given answered waiting : List Command) → WithPauses given answered → WithPauses (given ++ waiting) (answered ++ waiting)
+pauses_join given [] waiting h = subst (λ (l : List Command). WithPauses (l ++ waiting) waiting) (sym h) (pauses_none waiting)
+pauses_join given (c ∷ answered) waiting (inl h) = inl (h.0 ++ waiting, ap (λ (l : List Command). l ++ waiting) h.1, pauses_join h.0 answered waiting h.2)
+pauses_join given (c ∷ answered) waiting (inr h) = inr (h.0, pauses_join given answered waiting h.1)
+
+-- the accepted commands of a queue, with the pauses that were given
+pub paused_now : (q : CommandQueue) → IsQueue q → WithPauses q.accepted (q.answered ++ q.waiting.items)
+paused_now q h = subst (λ (l : List Command). WithPauses l (q.answered ++ q.waiting.items)) (sym h.past.1)
+    (pauses_join h.past.0 q.answered q.waiting.items h.past.2)
 
 -- a queue gave these commands: they were the first that it had left, and they are among those that were answered
 pub record HasGivenAll (q : CommandQueue) (d : List Done) (r : CommandQueue) : Type 0 where

@@ -9,8 +9,8 @@ use Rattle.nmgc_script.specs.{declared.script.Config.Config, Spelling.FitsConfig
 use Rattle.nmgc_limits.specs.declared.mutators.TheConstants.{MAKERS}
 use Rattle.nmgc_run_spec.specs.AfterRound.{program_of}
 use Rattle.nmgc_run_laws.specs.Limits.{FitsRun}
-use Rattle.nmgc_cycle.specs.{declared.command_queue.CommandQueue.CommandQueue, declared.session.Session.Session, Sessions.HasRunSoFar, Sessions.IsRest, Sessions.IsScriptOfSession, Sessions.IsSession, Sessions.MayComeFirst, Sessions.WithPauses, Sessions.accepted_in, Sessions.pause_in, Sessions.program_in, Sessions.script_in}
-use Rattle.nmgc_cycle.specs.laws.Queues.{first_follows, pause_fits, pause_small, pauses_more}
+use Rattle.nmgc_cycle.specs.{declared.command_queue.CommandQueue.CommandQueue, declared.session.Session.Session, Sessions.HasRunSoFar, Sessions.IsQueue, Sessions.IsRest, Sessions.IsScriptOfSession, Sessions.IsSession, Sessions.MayComeFirst, Sessions.WithPauses, Sessions.accepted_in, Sessions.pause_in, Sessions.program_in, Sessions.script_in}
+use Rattle.nmgc_cycle.specs.laws.Queues.{first_follows, pause_fits, pause_small, paused_now, pauses_more}
 use Rattle.std.specs.Prelude.{◌||◌}
 
 -- item k of a mapped list
@@ -114,7 +114,7 @@ module _ (stop : Bool) (s : Session) (is : IsSession stop s) where
       let h = (is.queues k q.0 q.1).0 in
       let own : WithPauses q.0.accepted (program_in s.is_open q.0) = subst (λ (l : List Command). WithPauses q.0.accepted l)
       (append_assoc q.0.answered q.0.waiting.items (pause_in (s.is_open || q.0.can_pause)))
-      (pauses_more q.0.accepted (q.0.answered ++ q.0.waiting.items) (s.is_open || q.0.can_pause) h.paused) in
+      (pauses_more q.0.accepted (q.0.answered ++ q.0.waiting.items) (s.is_open || q.0.can_pause) (paused_now q.0 h)) in
       subst (λ (l : List Command). WithPauses l (program_of (script_in s).threads k)) (sym (mapped_at (λ (q : CommandQueue). q.accepted) [] s.queues.items k q.0 q.1))
       (subst (λ (l : List Command). WithPauses q.0.accepted l) (sym (mapped_at (program_in s.is_open) [] s.queues.items k q.0 q.1)) own)
 

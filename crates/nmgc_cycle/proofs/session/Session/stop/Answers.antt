@@ -1,4 +1,4 @@
-use Rattle.nmgc_cycle.proofs.{Vocabulary.◌≡◌, Vocabulary.true, Vocabulary.HasAnswered, Vocabulary.lawful_are_of_runs, Vocabulary.report_of, Vocabulary.stop_is_lawful, sessions.Stops.may_be, sessions.Stops.session_stopped, stops.Observing.once_handed, stops.Observing.stopped_any, stops.Reported.reported}
+use Rattle.nmgc_cycle.proofs.{Vocabulary.◌≡◌, Vocabulary.true, Vocabulary.HasAnswered, Vocabulary.lawful_are_of_runs, Vocabulary.report_of, Vocabulary.stop_is_lawful, sessions.Stops.closed_by_none, sessions.Stops.may_be, sessions.Stops.session_stopped, stops.Observing.once_handed, stops.Observing.stopped_any, stops.Reported.reported}
 use Rattle.nmgc_cycle.specs.{Sessions.script_in, laws.Sessions.limits_now, laws.Sessions.script_now}
 use Rattle.nmgc_cycle.proofs.session.Session.stop.Goals as goal
 
@@ -21,6 +21,10 @@ pub returns-clause-answered : goal.returns-clause-answered
 returns-clause-answered g c = c.in_ok-answer.ensures.each (script_in c.args.self.now)
     (may_be c.args.self.now c.requires c.are_commands_left-left.result c.are_commands_left-left.ensures.is_open c.are_commands_left-left.ensures.closed
     (script_in c.args.self.now) (script_now true c.args.self.now c.requires))
+
+pub returns-clause-done : goal.returns-clause-done
+returns-clause-done g c = λ done. closed_by_none c.args.self.now.is_open c.are_commands_left-left.result c.are_commands_left-left.ensures.is_open
+    (c.in_ok-answer.ensures.done done)
 
 pub returns-clause-ended : goal.returns-clause-ended
 returns-clause-ended g c = λ end ended.
