@@ -28,6 +28,7 @@ pub mod top;
 mod upgrading;
 
 pub use entry::program;
+pub use message::cause_text;
 pub use nmgc_arguments::{Arguments, CommandLine, arguments_of};
 pub use status::{Ended, Status};
 pub use task::{Task, task_of};

@@ -46,8 +46,8 @@ pub fn bad_image_line(alloc: Global, line: u32) -> Result<Vec<u8>, NoMemory>
     Ok(text)
 }
 
-// Returns the token of a cause.
-fn cause_text(cause: Cause) -> &'static [u8]
+/// Returns the token of a cause.
+pub fn cause_text(cause: Cause) -> &'static [u8]
     ensures { result.now ≡ cause_text cause }
 {
     match cause {

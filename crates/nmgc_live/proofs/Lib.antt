@@ -1,0 +1,12 @@
+pub mod Answering
+pub mod Ending
+pub mod HeadLines
+pub mod Heading
+pub mod Judging
+pub mod LineParts
+pub mod Lives
+pub mod Lining
+pub mod Played
+pub mod Runs
+pub mod Stepping
+pub mod Taking

@@ -1,0 +1,9 @@
+pub mod Heads
+pub mod Lines
+pub mod Live
+pub mod Meanings
+pub mod Played
+pub mod Refusals
+pub mod Steps
+pub mod Transcripts
+pub mod Written
