@@ -16,7 +16,7 @@ pub use Rattle.nmgc_round.specs.laws.{Common.marks_if, Common.plain_is, Common.p
 pub use Rattle.nmgc_run_laws.specs.{Course.WaitsWhole, Sound.IsInCycle, Sound.IsSoundState, laws.Closings.one_more, laws.Closings.within_rounds, laws.Course.SameWait, laws.Course.all_placing_waits, laws.Course.still_noted, laws.CycleCounts.free, laws.Leaving.rows_keep_headers, laws.Places.block_used, laws.Places.blocks_at_stop, laws.Runs.rounds_are_sound, laws.Runs.states_are_sound, laws.Sweeps.sweeps_keep, laws.Tracks.tracked_before, laws.Tracks.tracked_itself}
 pub use Rattle.nmgc_run_spec.specs.{Terms.IsStrongObject, Run.owed as owed_along, Run.answered, Run.IsRun, Run.Run, Run.last_state, Run.slices, Run.Plan, Run.Progress, Run.State as RunState, Run.cycle_started, Run.layout_of, Run.marking, Run.next_cycle, Run.sweeping, Run.IsCycleDue, Run.IsFullDue, Lawful.FitBlocks, Terms.HasAllRegisters, Heap.HeapStandsFor, AfterRound.HoldsAfterRound, Heap.HoldsAtStop, AfterRound.IsBornPlace, Terms.registers_of, Terms.serials_of, Heap.snapshots, Terms.SweepsBeside, Terms.own_rows}
 pub use Rattle.nmgc_segment.specs.{Marks.IsEpoch, Segment.carried, Marks.epoch_of, Invariant.InSnapshot, Segment.InUse, Invariant.IsMarked, Invariant.IsSegment, Segment.Segment, Segment.free_segment, Segment.mark_of, declared.state.State.State as Stands, declared.state.State.TheVariants.Free, laws.Common.epoch_sound as epoch_is_epoch, laws.Segments.mark-map}
-pub use Rattle.nmgc_snapshot_laws.specs.{Closing.IsClosing, Closing.IsRescued, Closing.IsRevived, Facts.Facts, Facts.IsAhead, Facts.IsSafe, Facts.marked, Facts.owed, Facts.queued, Machine.AreEmpty, Machine.Passes, Machine.advanced, Machine.after_command, Machine.after_push, Machine.after_scan, Machine.after_take, Machine.is_pushed_in, Machine.pushed_of, Run.IsExactClosing, Run.Runs, Scan.field_at, Scan.read_at, State.State, State.State as Core, State.entry_of, State.is_listed, State.is_new, State.mark_name, State.mark_read, State.mark_values, State.names_of, State.opening, State.root_values, State.unmarked, State.unmarked as first_state, State.with_mark, declared.event.Entry.Entry, declared.event.Event.Event, laws.Commands.next_absent, laws.Common.runs_join as runs_then, laws.Ending.none_of as each_empty, laws.Listed.all_from_contains, laws.Listed.each_names, laws.Listed.is_same_name-refl, laws.Listed.listed_from, laws.Listed.names_other, laws.Listed.names_same, laws.Listed.tested_same, laws.Lives.live_there, laws.Lives.stands, laws.MarkedOnce.IsOnce, laws.MarkedOnce.once_opening, laws.MarkedOnce.once_runs, laws.MarkedOnce.stays_closed, laws.Marking.mark_cases, laws.Openings.no_names as none_at_first, laws.Openings.no_names as none_owed, laws.Runs.closing_is_exact, laws.Runs.event_keeps_facts, laws.Runs.facts_kept, laws.Runs.opening_has_facts, laws.Runs.opening_world, laws.Runs.snapshot_theorem, laws.ScanReads.read_cases, laws.Scans.has_free as thunk_free}
+pub use Rattle.nmgc_snapshot_laws.specs.{Closing.IsClosing, Closing.IsRescued, Closing.IsRevived, Facts.Facts, Facts.IsAhead, Facts.IsSafe, Facts.marked, Facts.owed, Facts.queued, Machine.AreEmpty, Machine.Passes, Machine.advanced, Machine.after_command, Machine.after_push, Machine.after_scan, Machine.after_take, Machine.is_pushed_in, Machine.pushed_of, Run.IsExactClosing, Run.Runs, Scan.field_at, Scan.read_at, State.Order, State.State, State.State as Core, State.entry_of, State.is_listed, State.is_new, State.joined, State.mark_name, State.mark_read, State.mark_values, State.names_of, State.newest_first, State.oldest_first, State.opening_in, State.root_values, State.unmarked, State.unmarked as first_state, State.with_mark, declared.event.Entry.Entry, declared.event.Event.Event, laws.Commands.next_absent, laws.Common.runs_join as runs_then, laws.Ending.none_of as each_empty, laws.Listed.all_from_contains, laws.Listed.each_names, laws.Listed.is_same_name-refl, laws.Listed.listed_from, laws.Listed.names_other, laws.Listed.names_same, laws.Listed.tested_same, laws.Lives.live_there, laws.Lives.stands, laws.MarkedOnce.IsOnce, laws.MarkedOnce.once_opening, laws.MarkedOnce.once_runs, laws.MarkedOnce.stays_closed, laws.Marking.joined_cases, laws.Marking.mark_cases, laws.Openings.no_names as none_at_first, laws.Openings.no_names as none_owed, laws.Runs.closing_is_exact, laws.Runs.event_keeps_facts, laws.Runs.facts_kept, laws.Runs.opening_has_facts, laws.Runs.opening_world, laws.Runs.snapshot_theorem, laws.ScanReads.read_cases, laws.Scans.has_free as thunk_free}
 pub use Rattle.nmgc_sweep.specs.{Seen.CycleSeen, Seen.SweeperSeen, Sweeping.HasListedNothing, Sweeping.HasNoted, Sweeping.IsFreedSoFar, Sweeping.IsListedSoFar, laws.NameTable.lies_exists as lies_within}
 pub use Rattle.nmgc_weak.specs.{Closes.QueuesClose, Queues.weak_count, Resolve.CanResolve, Weaks.places_of, declared.weaks.Death.Death, declared.weaks.OldWeak.OldWeak}
 pub use Rattle.nmgc_world_laws.specs.{Holds.CoversReach, Holds.Fields, Holds.HasStrongField, Holds.Names, Holds.free_of as free_if, Holds.has_result, Holds.strong_at, Reachable.CanReplay, Reachable.CountsNew, Reachable.HoldsOnly, Reachable.IsSound, Shape.SameShape, Shape.kind_of, Shape.made_by, Shape.part_count, Stored.Stores, Stored.place_written, Stored.value_written}

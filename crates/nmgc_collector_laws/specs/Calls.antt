@@ -3,7 +3,7 @@ use Rattle.std.specs.{Prelude.ℕ, Prelude.◌≡◌, Prelude.◌+◌, Prelude.�
 use Rattle.nmgc_world_spec.specs.Known.{IsWorld}
 use Rattle.nmgc_world_laws.specs.Reachable.{IsSound}
 use Rattle.nmgc_object.specs.declared.layout.Layout.{Layout}
-use Rattle.nmgc_snapshot_laws.specs.State.{State as Core, opening}
+use Rattle.nmgc_snapshot_laws.specs.State.{State as Core, newest_first, opening_in}
 use Rattle.nmgc_alloc.specs.{AllocState.Segments, Segments.IsSegments}
 use Rattle.nmgc_heap_spec.specs.Objects.{Place}
 use Rattle.nmgc_journal.specs.declared.report.MutatorEnd.{MutatorEnd}
@@ -28,7 +28,7 @@ SnapshotIsMarking = (layout : Layout) (s : State) (words : List ℕ) (old : Segm
     (o : Opening) (spare : ℕ) → (h : HoldsAtStop layout s words old ends weaks) → IsWorld s.world → IsSegments new.segments
     → o.layout ≡ layout → o.places ≡ h.places → o.core.snapshot ≡ s.world
     → HasMarked (all_prepared old) new.segments (blank (epoch_of (s.begun + 1)) spare) new.marker 0 →
-    IsTiedByPlaces o (marks_of (opening o.core.snapshot)) new.segments new.marker
+    IsTiedByPlaces o (marks_of (opening_in newest_first o.core.snapshot)) new.segments new.marker
     → EachMutator new (λ m mutator. weak_count s.world m new.weaks ≤ mutator.queue.spare) → NoneRemember new → new.cycle.from ≡ s.number →
     HasNoted (next_cycle s) new.sweeper → HasListedNothing new.sweeper
     → IsMarking (next_cycle s) (cycle_started s) new h.places

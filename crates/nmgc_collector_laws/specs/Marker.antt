@@ -4,7 +4,7 @@ use Rattle.nmgc_world_spec.specs.{declared.value.Name.Name, World.World, World.n
 use Rattle.nmgc_segment.specs.{Invariant.IsMarked, Invariant.InSnapshot, Marks.epoch_of}
 use Rattle.nmgc_alloc.specs.AllocState.{nth, Segments, AllocState, LiesIn}
 use Rattle.nmgc_heap_spec.specs.Objects.{Place}
-use Rattle.nmgc_snapshot_laws.specs.{declared.event.Entry.Entry, declared.event.Event.Event, State.State as Core, State.opening, Machine.AreEmpty, Machine.is_pushed_in, Run.Runs}
+use Rattle.nmgc_snapshot_laws.specs.{declared.event.Entry.Entry, declared.event.Event.Event, State.State as Core, State.newest_first, State.opening_in, Machine.AreEmpty, Machine.is_pushed_in, Run.Runs}
 use Rattle.nmgc_stop_spec.specs.Cycle.{Cycle}
 use Rattle.nmgc_run_spec.specs.Run.{owed}
 use Rattle.nmgc_mark.specs.Seen.{MarkerSeen}
@@ -19,7 +19,7 @@ AreAt places _ _ = ⊥
 -- of the snapshot that the earlier rounds owed are marked
 pub record IsCoreOf (c : Cycle) (w : World) (core : Core) : Type 0 where
   pub events : List Event
-  pub runs : Runs (opening c.snapshot) events c.rows core
+  pub runs : Runs (opening_in newest_first c.snapshot) events c.rows core
   pub open_yet : core.is_closed ≡ false
   pub world_is : core.world ≡ w
   pub nothing_owed : AreEmpty core.owed
@@ -45,11 +45,13 @@ AreMarked core allocation segments epoch = (number block : ℕ) (name : Name) �
 abbrev pub IsUnread : Entry → Type 0
 IsUnread entry = entry.position ≡ 0
 
--- the marker of a cycle has the marks and the queue of the machine. For the machine g counts as marked, and g has no block
+-- the marker of a cycle has the marks and the queue of the machine, newest first. For the machine g counts as marked, and g
+-- has no block
 pub record IsTied (c : Cycle) (allocation : AllocState) (segments : Segments) (places : List Place) (marker : MarkerSeen) (core : Core) : Type 0 where
   pub epoch : marker.epoch ≡ epoch_of c.number
   pub snapshot : IsRightSnapshot c allocation segments
   pub marks : AreMarked core allocation segments marker.epoch
+  pub order : core.order ≡ newest_first
   pub queue : AreAt places marker.queue (map (λ (entry : Entry). entry.name) core.queue)
   pub fresh : All IsUnread core.queue
   pub count : marker.marked + 1 ≡ length core.marked

@@ -2,7 +2,7 @@
 use Rattle.std.specs.Prelude.{ℕ, ◌≡◌, ◌<◌, false, List, [], length, map, slice_get, Contains, Some}
 use Rattle.nmgc_world_spec.specs.{World.World, Known.IsWorld}
 use Rattle.nmgc_object.specs.declared.layout.Layout.{Layout}
-use Rattle.nmgc_snapshot_laws.specs.State.{unmarked}
+use Rattle.nmgc_snapshot_laws.specs.State.{newest_first, unmarked}
 use Rattle.nmgc_alloc.specs.{AllocState.Segments, Segments.IsSegments}
 use Rattle.nmgc_heap_spec.specs.{Objects.Place, Represents.Represents, Represents.NoNode, Roots.RepresentsRoots}
 use Rattle.nmgc_stop_spec.specs.{Occupied.AreBlocks, Stopped.young_base}
@@ -37,4 +37,4 @@ pub record IsAtRest (s : Segments) (places : List Place) (w : World) (words : Li
 
 -- the opening of a round from a heap at rest: no cycle marks, nothing is owed, and each mutator has its roots and serial
 abbrev pub opening_at : Layout → World → List Place → List Mutator → Opening
-opening_at layout w places mutators = record { layout = layout; marking = false; core = unmarked w; places = places; hands = map (hand_of w places) mutators }
+opening_at layout w places mutators = record { layout = layout; marking = false; core = unmarked newest_first w; places = places; hands = map (hand_of w places) mutators }

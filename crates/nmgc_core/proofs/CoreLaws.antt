@@ -1,6 +1,7 @@
 -- The set of marks of a core, and the queues of its mutators, as they change.
-use Rattle.nmgc_core.proofs.Vocabulary.{◌≡◌, ◌<◌, ◌+◌, ℕ, zero, suc, List, [], ◌∷◌, ◌++◌, length, get_or, set, take, inl, inr, refl, sym, ap, subst, length-set, ◌∙◌, arith, Option, Some, None, Result, Ok, Err, Bool, true, false, not, All, Contains, slice_get, is_some, ◌&&◌, ◌||◌, IfOk, IfSome, IfNone, take_more, get_or-set_same, set-get_or, take-append-le, take_all, Name, World, node_of, state_of, IsWorld, is_same_name, Lists, IsAlive, Command, Reply, CanApply, step, Parts, finalised_by, step_grows, not_shared, Contains-append_left, Names, step_alive, Entry, NoMemory, Value, State, is_listed, is_new, names_of, mark_name, mark_value, mark_values, mark_read, entry_of, mark_cases, HasPlace, HasPlaces, IsMarked, mark_of, with_mark, added, kept_others, places_kept, makers_kept, name_placed, name_cases, IsCore, contains_listed, listed_from, tested_same, is_same_name-refl}
+use Rattle.nmgc_core.proofs.Vocabulary.{◌≡◌, ◌<◌, ◌+◌, ℕ, zero, suc, List, [], ◌∷◌, ◌++◌, length, get_or, set, take, drop, cond, inl, inr, refl, sym, ap, subst, length-set, ◌∙◌, arith, Option, Some, None, Result, Ok, Err, Bool, true, false, not, All, Contains, slice_get, is_some, ◌&&◌, ◌||◌, IfOk, IfSome, IfNone, take_more, get_or-set_same, set-get_or, take-append-le, take_all, Name, World, node_of, state_of, IsWorld, is_same_name, Lists, IsAlive, Command, Reply, CanApply, step, Parts, finalised_by, step_grows, not_shared, Contains-append_left, Names, step_alive, Entry, NoMemory, Value, oldest_first, State, advanced, after_scan, read_at, is_listed, is_new, names_of, mark_name, mark_value, mark_values, mark_read, mark_cases, HasPlace, HasPlaces, IsMarked, mark_of, with_mark, added, kept_others, places_kept, makers_kept, name_placed, name_cases, IsCore, contains_listed, listed_from, tested_same, is_same_name-refl}
 use Rattle.nmgc_world_spec.specs.declared.value.Value.TheVariants as value
+use Rattle.nmgc_snapshot_laws.specs.State.{with_mark as with_name}
 
 is_listed-push : (name : Name) (xs : List Name) (x : Name) → is_listed name (xs ++ x ∷ []) ≡ (is_listed name xs || is_same_name x name)
 is_listed-push name [] x = by_test (is_same_name x name)
@@ -111,6 +112,33 @@ taken_back lists lists' m names count lt e f =
     take_all (length (names_of lists m)) (names_of lists m) (omega arith) in
     rw (e, f, get_or-set_same lists m (names_of lists m ++ names) [] lt, back, set_twice) (set-get_or lists m [])
 
+-- a name is marked while the first entry is queued, which leaves then: all is as if the entry had left before
+scan_rest : (s : State) (entry : Entry) (rest : List Entry) → s.order ≡ oldest_first → s.queue ≡ entry ∷ rest → (o : Option Value) →
+    (let t : State = record (mark_read s o) { queue = drop 1 (mark_read s o).queue } in t) ≡ mark_read (record s { queue = rest }) o
+scan_rest s entry rest order first None = ap (λ (l : List Entry). let t : State = record s { queue = drop 1 l } in t) first
+scan_rest s entry rest order first (Some value.Nil) = ap (λ (l : List Entry). let t : State = record s { queue = drop 1 l } in t) first
+scan_rest s entry rest order first (Some (value.Number n)) = ap (λ (l : List Entry). let t : State = record s { queue = drop 1 l } in t) first
+scan_rest s entry rest order first (Some (value.Ref name)) = by_test (is_new s name)
+  where
+    by_test : (b : Bool) → (let t : State = record (cond b (with_name s name) s) { queue = drop 1 (cond b (with_name s name) s).queue } in t) ≡
+        cond b (with_name (record s { queue = rest }) name) (record s { queue = rest })
+    by_test true = rw (order, first) refl
+    by_test false = ap (λ (l : List Entry). let t : State = record s { queue = drop 1 l } in t) first
+
+-- so it is a scan, oldest first
+pub scan_is : (s t : State) (entry : Entry) → s.order ≡ oldest_first → slice_get s.queue 0 ≡ Some entry →
+    t ≡ advanced (record (mark_read s (read_at (node_of s.world entry.name) entry.position)) {
+      queue = drop 1 (mark_read s (read_at (node_of s.world entry.name) entry.position)).queue;
+    }) entry → t ≡ after_scan s s.queue
+scan_is s t entry order first is = by_queue s.queue refl first
+  where
+    by_queue : (queue : List Entry) → s.queue ≡ queue → slice_get queue 0 ≡ Some entry → t ≡ after_scan s queue
+    by_queue [] e h = absurd cc
+    by_queue (x ∷ rest) e h =
+        let same : x ≡ entry = cc in
+        rw same (is ∙ ap (λ (u : State). advanced u entry)
+        (scan_rest s entry rest order (rw same at e) (read_at (node_of s.world entry.name) entry.position)))
+
 pub some_first : {A : Type 0} (xs : List A) (x : A) → slice_get xs 0 ≡ Some x → 0 < length xs
 some_first [] x h = absurd cc
 some_first (y ∷ xs) x h = omega arith
@@ -119,15 +147,15 @@ first_append : {A : Type 0} (xs ys : List A) (x : A) → slice_get xs 0 ≡ Some
 first_append [] ys x h = absurd cc
 first_append (y ∷ xs) ys x h = h
 
-mark_first : (s : State) (name : Name) (entry : Entry) → slice_get s.queue 0 ≡ Some entry → slice_get (mark_name s name).queue 0 ≡ Some entry
-mark_first s name entry h = mark_cases (λ t. slice_get t.queue 0 ≡ Some entry) s name (λ e. first_append s.queue (entry_of name ∷ []) entry h) (λ e. h)
+mark_first : (s : State) (name : Name) (entry : Entry) → s.order ≡ oldest_first → slice_get s.queue 0 ≡ Some entry → slice_get (mark_name s name).queue 0 ≡ Some entry
+mark_first s name entry order h = mark_cases (λ t. slice_get t.queue 0 ≡ Some entry) s name (λ e. rw order (first_append s.queue _ entry h)) (λ e. h)
 
 -- marking leaves the first entry
-pub read_first : (s : State) (o : Option Value) (entry : Entry) → slice_get s.queue 0 ≡ Some entry → slice_get (mark_read s o).queue 0 ≡ Some entry
-read_first s None entry h = h
-read_first s (Some value.Nil) entry h = h
-read_first s (Some (value.Number n)) entry h = h
-read_first s (Some (value.Ref name)) entry h = mark_first s name entry h
+pub read_first : (s : State) (o : Option Value) (entry : Entry) → s.order ≡ oldest_first → slice_get s.queue 0 ≡ Some entry → slice_get (mark_read s o).queue 0 ≡ Some entry
+read_first s None entry order h = h
+read_first s (Some value.Nil) entry order h = h
+read_first s (Some (value.Number n)) entry order h = h
+read_first s (Some (value.Ref name)) entry order h = mark_first s name entry order h
 
 -- and the pushed names
 pub mark_pushed : (s : State) (name : Name) → (mark_name s name).pushed ≡ s.pushed

@@ -25,7 +25,7 @@
 //!
 //! Easy to get wrong: the third fact is about the snapshot's fields, so the old value is owed. A barrier on the new value
 //! would lose a target whose field was overwritten before the scan.
-ghost use Rattle.std.specs.Prelude.{◌≡◌, ◌∷◌, ◌++◌, [], false, slice_get, slice_set, IfOk, OnOk, OnErr, IsTrue, IsSome, ◌↔◌, Some, Contains, if◌then◌else◌};
+ghost use Rattle.std.specs.Prelude.{◌≡◌, ◌∷◌, ◌++◌, [], false, drop, slice_get, slice_set, IfOk, OnOk, OnErr, IsTrue, IsSome, ◌↔◌, Some, Contains, if◌then◌else◌};
 ghost use Rattle.nmgc_world_spec.specs.{declared.value.Name.Name as NameAt, World.shared_name};
 ghost use Rattle.nmgc_graph.specs.Marks.{HasPlaces, mark_of};
 ghost use Rattle.nmgc_snapshot_laws.specs.{State.is_listed, Machine.is_pushed_in, Machine.AreEmpty};
@@ -92,19 +92,19 @@ impl Drop for Core {
 }
 
 impl Model for Core {
-    ghost use Rattle.nmgc_snapshot_laws.specs.State.{State};
+    ghost use Rattle.nmgc_snapshot_laws.specs.State.{State, oldest_first};
     ghost use Rattle.nmgc_core.specs.Sound.{IsCore};
 
     ghost Value = { State };
 
-    ghost view = { λ c. record { world = c.world; snapshot = c.snapshot; marked = c.marked; queue = c.queue; owed = c.owed; pushed = c.pushed; opened = c.opened; finalised = c.finalised; is_closed = c.is_closed } };
+    ghost view = { λ c. record { world = c.world; snapshot = c.snapshot; marked = c.marked; queue = c.queue; order = oldest_first; owed = c.owed; pushed = c.pushed; opened = c.opened; finalised = c.finalised; is_closed = c.is_closed } };
 
-    ghost invariant = { λ c. IsCore c.marks (record { world = c.world; snapshot = c.snapshot; marked = c.marked; queue = c.queue; owed = c.owed; pushed = c.pushed; opened = c.opened; finalised = c.finalised; is_closed = c.is_closed }) };
+    ghost invariant = { λ c. IsCore c.marks (record { world = c.world; snapshot = c.snapshot; marked = c.marked; queue = c.queue; order = oldest_first; owed = c.owed; pushed = c.pushed; opened = c.opened; finalised = c.finalised; is_closed = c.is_closed }) };
 }
 
 impl Core {
     ghost use Rattle.nmgc_world_spec.specs.{Known.IsWorld, World.node_of, World.step, Reach.Lists, Reach.finalised_by, Known.CanApply};
-    ghost use Rattle.nmgc_snapshot_laws.specs.{State.names_of, State.opening, State.mark_name, State.mark_value, State.mark_read, State.mark_values, State.is_new, State.unmarked, Run.IsRun, Machine.Passes, Machine.advanced};
+    ghost use Rattle.nmgc_snapshot_laws.specs.{State.names_of, State.opening, State.mark_name, State.mark_value, State.mark_read, State.mark_values, State.is_new, State.oldest_first, State.unmarked, Run.IsRun, Machine.Passes, Machine.advanced};
     ghost use Rattle.nmgc_snapshot_laws.specs.declared.event.Event.TheVariants as event;
 
     /// Begins marking: copies the world as the snapshot, and marks the roots. Takes time and memory for each object.
@@ -122,7 +122,7 @@ impl Core {
 
     // Makes a machine in which only g is marked and nothing is queued. Its snapshot is a copy of its world.
     fn make_unmarked(world: World) -> Result<Self, NoMemory>
-        ensures { IfOk result (λ core. core ≡ unmarked world) }
+        ensures { IfOk result (λ core. core ≡ unmarked oldest_first world) }
     {
         let alloc = world.alloc();
         let snapshot = world.copy()?;
@@ -204,7 +204,7 @@ impl Core {
     // Moves the queue's first entry, which has to be `entry`, to its next position, or removes it if no position is left.
     fn advance(&mut self, entry: Entry)
         requires { slice_get self.old.queue 0 ≡ Some entry }
-        ensures { self.new ≡ advanced self.old self.old.queue }
+        ensures { self.new ≡ advanced (record self.old { queue = drop 1 self.old.queue }) entry }
     {
         match next_entry(&self.world, entry) {
             Some(next) => self.queue.replace_first(next),

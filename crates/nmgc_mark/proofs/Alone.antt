@@ -1,5 +1,5 @@
 -- A collector that scans alone: each load is the machine's next scan, by the law of scans.
-use Rattle.nmgc_mark.proofs.Vocabulary.{◌≡◌, inl, inr, ℕ, ◌+◌, ◌<◌, ◌≤◌, ◌^◌, List, [], ◌∷◌, ◌++◌, length, set, refl, sym, ap, subst, ◌∙◌, arith, Some, None, Option, Contains, slice_index, IsSome, some, get_elem?, Name, Value, Node, node_of, contains_head, Header, word_total, header_word, IsHeader, Entry, State, mark_value, mark_read, read_at, moved_on, after_scan, advanced, Segments, size_of, Place, Happening, did, scanned, replay, Opening, Seen, Scan, whole, Marks, marks_of, marks_after, offset_of, Object, place_of, IsIn, Keeps, now, AllRead, IsRead, AddsScan, CanScan, first_of, scanned_by, CanOpen, FindsEntry, FindsNode, FindsScan, IsSafe, MarkerSeen, AreScans, IsAlone, WordsShow, HasFinished, IsTied, AreQueued, entry_now, marks_seen, lies_within}
+use Rattle.nmgc_mark.proofs.Vocabulary.{◌≡◌, inl, inr, ℕ, ◌+◌, ◌<◌, ◌≤◌, ◌^◌, List, [], ◌∷◌, ◌++◌, length, set, refl, sym, ap, subst, ◌∙◌, arith, Some, None, Option, Contains, slice_index, IsSome, some, get_elem?, Name, Value, Node, node_of, contains_head, Header, word_total, header_word, IsHeader, Entry, State, mark_value, mark_read, read_at, moved_on, after_scan, Segments, size_of, Place, Happening, did, scanned, replay, Opening, Seen, Scan, whole, Marks, marks_of, marks_after, offset_of, Object, place_of, IsIn, Keeps, now, AllRead, IsRead, AddsScan, CanScan, first_of, scanned_by, CanOpen, FindsEntry, FindsNode, FindsScan, IsSafe, MarkerSeen, AreScans, IsAlone, WordsShow, HasFinished, IsTied, AreQueued, entry_now, marks_seen, lies_within}
 use Rattle.nmgc_world_spec.specs.declared.value.Value.TheVariants as value
 use Rattle.nmgc_mark.proofs.OneMark.{mark_is}
 
@@ -142,16 +142,13 @@ read_rest : (s : State) (x : Option Value) → mark_read s x ≡ record s { mark
 read_rest s None = refl
 read_rest s (Some v) = value_rest s v
 
-advanced_rest : (s t : State) (queue : List Entry) → t ≡ record s { marked = t.marked; queue = t.queue } →
-    advanced t queue ≡ record s { marked = (advanced t queue).marked; queue = (advanced t queue).queue }
-advanced_rest s t [] e = e
-advanced_rest s t (entry ∷ rest) e = ap (λ (x : State). let u : State = record x { queue = moved_on (node_of t.world entry.name) entry ++ rest } in u) e
-
 scan_rest : (s : State) (queue : List Entry) → after_scan s queue ≡ record s { marked = (after_scan s queue).marked; queue = (after_scan s queue).queue }
 scan_rest s [] = refl
 scan_rest s (entry ∷ rest) =
-    let t : State = mark_read s (read_at (node_of s.world entry.name) entry.position) in
-    advanced_rest s t t.queue (read_rest s (read_at (node_of s.world entry.name) entry.position))
+    let from : State = record s { queue = rest } in
+    let t : State = mark_read from (read_at (node_of s.world entry.name) entry.position) in
+    ap (λ (x : State). let u : State = record x { queue = moved_on (node_of t.world entry.name) entry ++ t.queue } in u)
+    (read_rest from (read_at (node_of s.world entry.name) entry.position))
 
 -- so do scans
 pub scans_rest : (s : State) (es : List Happening) → AreScans es → replay s es ≡ record s { marked = (replay s es).marked; queue = (replay s es).queue }

@@ -5,8 +5,8 @@ use Rattle.nmgc_world_spec.specs.declared.node.Kind.TheVariants as kind
 use Rattle.nmgc_object.specs.{declared.words.Header.Header, declared.size.TheConstants.HEADER_WORDS, Words.header_word, Words.IsHeader, Words.word_total, Layouts.IsLayout, declared.layout.Layout.Layout}
 use Rattle.nmgc_snapshot_laws.specs.Scan.{fields_of}
 use Rattle.nmgc_alloc.specs.AllocState.{Segments}
-use Rattle.nmgc_round.specs.{declared.table.Round.Round, View.Opening, View.Seen, View.Scan, Marking.Marks, Marking.name_meant, Marking.name_read, Marking.with_name, Marking.is_last_word, Marking.is_thunk, Ready.scanned_by, Known.FindsScan, Seat.RoundSeat, Seat.IsAt, Seat.Knows, Seat.seen, Seat.word_count}
-use Rattle.nmgc_mark.specs.{Seen.MarkerSeen, Marker.HasRoomToMark, Marker.HasMarked, Marker.turned, Tie.IsTied, laws.Common.marked_then, Work.IsScanning, Work.IsCollector, Work.IsLaterSeat, Work.IsAtField, Work.HasWorked, Work.SeatShows, Work.entry_now, Work.marks_seen, Work.rest_of, Work.fields_scanned, Work.has_results, Work.is_result}
+use Rattle.nmgc_round.specs.{declared.table.Round.Round, View.Opening, View.Seen, View.Scan, Marking.Marks, Marking.name_meant, Marking.name_read, Marking.rest_of, Marking.with_name, Marking.is_last_word, Marking.is_thunk, Ready.scanned_by, Known.FindsScan, Seat.RoundSeat, Seat.IsAt, Seat.Knows, Seat.seen, Seat.word_count}
+use Rattle.nmgc_mark.specs.{Seen.MarkerSeen, Marker.HasRoomToMark, Marker.HasMarked, Marker.turned, Tie.IsTied, laws.Common.marked_then, Work.IsScanning, Work.IsCollector, Work.IsLaterSeat, Work.IsAtField, Work.HasWorked, Work.SeatShows, Work.entry_now, Work.marks_seen, Work.fields_scanned, Work.has_results, Work.is_result}
 use Rattle.nmgc_mark.proofs.Scanning.{IsNode, IsTaken, node_known, thunk_by, goes_on, ends, not_last, header_more, field_last, result_last, fields_are}
 
 pub few : (k : Kind) (n : ℕ) → fields_scanned k n ≤ n

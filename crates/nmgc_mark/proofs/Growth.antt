@@ -18,6 +18,7 @@ more_places o places m s marker sub right h = record {
       let k = h.snapshot.sound p.at g in
       let same = right.apart.one (record { at = p.at; name = k.0 }) p (sub (record { at = p.at; name = k.0 }) k.1) c (inr refl) in
       subst (λ (q : Place). IsMarkedAt s marker.epoch q.at ↔ Contains m.marked q.name) same (h.marks (record { at = p.at; name = k.0 }) k.1 g);
+  order = h.order;
   queue = more_queued o.places places sub marker.queue m.queue h.queue;
   count = h.count;
 }

@@ -1,5 +1,5 @@
 -- One mark of the machine.
-use Rattle.nmgc_mark.proofs.Vocabulary.{◌≡◌, Bool, true, false, cond, [], ◌∷◌, ◌++◌, refl, sym, ap, Some, Contains, Contains-append_left, Name, shared_name, State, is_new, mark_name, with_mark, entry_of, marks_of, with_name}
+use Rattle.nmgc_mark.proofs.Vocabulary.{◌≡◌, Bool, true, false, cond, [], ◌∷◌, ◌++◌, refl, sym, ap, Some, Contains, Contains-append_left, Name, shared_name, State, is_new, joined, mark_name, with_mark, entry_of, marks_of, with_name}
 
 -- a mark changes only marks and queue
 pub record IsMarkOf (s t : State) (name : Name) : Type 0 where
@@ -9,17 +9,17 @@ pub record IsMarkOf (s t : State) (name : Name) : Type 0 where
 
 mark_if : (b : Bool) (s : State) (name : Name) → is_new s name ≡ b → IsMarkOf s (cond b (with_mark s name) s) name
 mark_if true s name e = record {
-  marks = ap (λ (b : Bool). cond b (record {
+  marks = ap (λ (b : Bool). cond b (record (marks_of s) {
     marked = s.marked ++ name ∷ [];
-    queue = s.queue ++ entry_of name ∷ [];
+    queue = joined s.order s.queue (entry_of name);
   }) (marks_of s)) (sym e);
   rest = refl;
   shared = λ c. Contains-append_left s.marked (name ∷ []) shared_name c;
 }
 mark_if false s name e = record {
-  marks = ap (λ (b : Bool). cond b (record {
+  marks = ap (λ (b : Bool). cond b (record (marks_of s) {
     marked = s.marked ++ name ∷ [];
-    queue = s.queue ++ entry_of name ∷ [];
+    queue = joined s.order s.queue (entry_of name);
   }) (marks_of s)) (sym e);
   rest = refl;
   shared = λ c. c;

@@ -1,5 +1,5 @@
 -- The words of the roots refer to the same objects as the machine's values.
-use Rattle.nmgc_mark.proofs.Vocabulary.{ne_eqb, eq-eqb, ◌≡◌, inr, ℕ, ◌*◌, ◌/◌, ◌%◌, true, false, eqb, List, [], ◌∷◌, ◌++◌, ◌+◌, ◌≤◌, ◌<◌, refl, sym, ap, ◌∙◌, arith, Option, Some, None, inl, Contains, flat_map, Name, MutatorState, shared_name, strong_fields, contains_head, contains_cases, FinQueue, word_total, block_size, least_block, nth, Segments, IsSegments, lies_in, Value, World, State, mark_value, mark_values, unmarked, opening, Place, Means, ListMeans, shared_place, Opening, Marks, marks_of, name_meant, with_name, IsBeginning, slots_of, blank, IsTied, AreApart, with_words, with_queues, some_at, means_append}
+use Rattle.nmgc_mark.proofs.Vocabulary.{ne_eqb, eq-eqb, ◌≡◌, inr, ℕ, ◌*◌, ◌/◌, ◌%◌, true, false, eqb, List, [], ◌∷◌, ◌++◌, ◌+◌, ◌≤◌, ◌<◌, refl, sym, ap, ◌∙◌, arith, Option, Some, None, inl, Contains, flat_map, Name, MutatorState, shared_name, strong_fields, contains_head, contains_cases, FinQueue, word_total, block_size, least_block, nth, Segments, IsSegments, lies_in, Value, World, State, mark_value, mark_values, newest_first, unmarked, opening_in, Place, Means, ListMeans, shared_place, Opening, Marks, marks_of, name_meant, with_name, IsBeginning, slots_of, blank, IsTied, AreApart, with_words, with_queues, some_at, means_append}
 use Rattle.nmgc_world_spec.specs.declared.value.Value.TheVariants as value
 use Rattle.nmgc_mark.proofs.{Words.words_append, Words.queues_flat, OneMark.mark_is}
 
@@ -63,14 +63,14 @@ words_small o (x ∷ xs) (v ∷ vs) h means w at c e = elim (contains_cases x xs
 -- the roots of the snapshot, marked in their order
 pub roots_mark : (o : Opening) (s : Segments) (epoch : ℕ) (words registers : List ℕ) (queues : List FinQueue) →
     IsBeginning o s epoch words registers queues →
-    with_words o (with_queues o (with_words o (marks_of (unmarked o.core.snapshot)) registers) queues) (slots_of words) ≡ marks_of (opening o.core.snapshot)
+    with_words o (with_queues o (with_words o (marks_of (unmarked newest_first o.core.snapshot)) registers) queues) (slots_of words) ≡ marks_of (opening_in newest_first o.core.snapshot)
 roots_mark o s epoch words registers queues h =
     let S : World = o.core.snapshot in
-    let m : Marks = marks_of (unmarked o.core.snapshot) in
+    let m : Marks = marks_of (unmarked newest_first o.core.snapshot) in
     let flat : List ℕ = flat_map (λ (q : FinQueue). q.words) queues in
     let regs : List Value = flat_map (λ (state : MutatorState). state.registers) S.mutators in
     let fins : List Value = flat_map (λ (state : MutatorState). state.queue) S.mutators in
-    let all = words_mark o (unmarked S) (registers ++ (flat ++ slots_of words)) (regs ++ (fins ++ strong_fields S.shared)) refl h.right.apart
+    let all = words_mark o (unmarked newest_first S) (registers ++ (flat ++ slots_of words)) (regs ++ (fins ++ strong_fields S.shared)) refl h.right.apart
     (means_append (Contains o.places) registers (flat ++ slots_of words) regs (fins ++
     strong_fields S.shared) h.registers_are (means_append (Contains o.places) flat (slots_of words) fins (strong_fields S.shared) h.queues_are
     h.slots_are)) in
@@ -78,7 +78,7 @@ roots_mark o s epoch words registers queues h =
 
 -- a blank marker is tied to the machine with only g marked
 pub blank_tied : (o : Opening) (s : Segments) (epoch spare : ℕ) (words registers : List ℕ) (queues : List FinQueue) → IsSegments s →
-    IsBeginning o s epoch words registers queues → IsTied o (marks_of (unmarked o.core.snapshot)) s (blank epoch spare)
+    IsBeginning o s epoch words registers queues → IsTied o (marks_of (unmarked newest_first o.core.snapshot)) s (blank epoch spare)
 blank_tied o s epoch spare words registers queues sound h = record {
   snapshot = h.right;
   shared = contains_head shared_name [];
@@ -95,6 +95,7 @@ blank_tied o s epoch spare words registers queues sound h = record {
       | inr d ↦ absurd (let lt = d.1 in omega arith)
     ],
   );
+  order = refl;
   queue = tt;
   count = refl;
 }

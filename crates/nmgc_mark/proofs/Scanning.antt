@@ -1,5 +1,5 @@
 -- The effect of a scan on a collector's view.
-use Rattle.nmgc_mark.proofs.Vocabulary.{ne_eqb, eq-eqb, le-leb, leb-true, ◌≡◌, inl, inr, ◌↔◌, ℕ, suc, ◌+◌, ◌<◌, ◌≤◌, Bool, true, false, not, ◌&&◌, ◌||◌, cond, eqb, leb, List, [], ◌∷◌, ◌++◌, refl, sym, ap, subst, ◌∙◌, arith, Option, Some, None, is_some, drop, Contains, eqb_tells, Name, Node, Con, Var, Arr, Thunk, Weak, Stack, World, node_of, Header, header_word, IsHeader, word_total, Entry, is_listed, entry_of, fields_of, Segments, IsMarkedAt, header_of, size_of, Opening, Seen, Marks, marks_of, name_read, with_name, after_word, entry_past, first_past, is_last_word, is_thunk, offset_of, CanScan, first_of, scanned_by, FindsEntry, MarkerSeen, AreQueued, IsTied, IsScanning, entry_now, marks_seen, rest_of, with_first, fields_scanned, has_results, is_result, folded_more, or_true}
+use Rattle.nmgc_mark.proofs.Vocabulary.{ne_eqb, eq-eqb, le-leb, leb-true, ◌≡◌, inl, inr, ◌↔◌, ℕ, suc, ◌+◌, ◌<◌, ◌≤◌, Bool, true, false, not, ◌&&◌, ◌||◌, cond, eqb, leb, List, [], ◌∷◌, ◌++◌, refl, sym, ap, subst, ◌∙◌, arith, Option, Some, None, drop, Contains, eqb_tells, Name, Node, Con, Var, Arr, Thunk, Weak, Stack, node_of, Header, header_word, IsHeader, word_total, Entry, fields_of, Segments, IsMarkedAt, header_of, size_of, Opening, Seen, Marks, marks_of, name_read, with_name, entry_past, is_last_word, is_thunk, offset_of, CanScan, first_of, scanned_by, FindsEntry, MarkerSeen, AreQueued, IsTied, IsScanning, entry_now, marks_seen, rest_of, with_first, fields_scanned, has_results, is_result, folded_more, or_true}
 
 -- its word is the next word that the view scans
 pub can_scan : (v : Seen) (s : Segments) (marker : MarkerSeen) (at position offset : ℕ) → IsScanning v s marker at position →
@@ -52,19 +52,7 @@ thunk_by (Thunk free result) = refl
 thunk_by (Weak parts) = refl
 thunk_by (Stack size values) = refl
 
-name_first : (S : World) (entry : Entry) (rest : Marks) (y : Option Name) → with_name S (with_first entry rest) y ≡ with_first entry (with_name S rest y)
-name_first S entry rest None = refl
-name_first S entry rest (Some name) = by_test (is_some (node_of S name) && not (is_listed name rest.marked))
-  where
-    by_test : (b : Bool) → cond b (record {
-      marked = rest.marked ++ name ∷ [];
-      queue = (entry ∷ rest.queue) ++ entry_of name ∷ [];
-    }) (with_first entry rest) ≡
-        with_first entry (cond b (record { marked = rest.marked ++ name ∷ []; queue = rest.queue ++ entry_of name ∷ [] }) rest)
-    by_test true = refl
-    by_test false = refl
-
-module _ (v : Seen) (w : ℕ) (first : marks_seen v ≡ with_first (entry_now v) (rest_of (marks_seen v))) where
+module _ (v : Seen) (w : ℕ) where
   abbrev o : Opening
   o = v.opening
 
@@ -74,19 +62,12 @@ module _ (v : Seen) (w : ℕ) (first : marks_seen v ≡ with_first (entry_now v)
   abbrev t : Marks
   t = with_name o.core.snapshot (rest_of (marks_seen v)) (name_read o.places e.position w)
 
-  after : marks_seen (scanned_by v w) ≡ record { marked = t.marked; queue = entry_past (node_of o.core.snapshot e.name) e w ++ t.queue }
-  after =
-      folded_more o (marks_of o.core) v.scans (record { entry = e; word = w })
-      ∙ ap (λ (k : Marks). after_word o k (record { entry = e; word = w })) first
-      ∙ ap (λ (k : Marks). let n : Marks = record { marked = k.marked; queue = first_past o.core.snapshot k.queue w } in
-      n) (name_first o.core.snapshot e (rest_of (marks_seen v)) (name_read o.places e.position w))
-
   after_node : (node : Node) → node_of o.core.snapshot e.name ≡ Some node →
-      marks_seen (scanned_by v w) ≡ record {
-        marked = t.marked;
+      marks_seen (scanned_by v w) ≡ record t {
         queue = cond (is_last_word node e.position w) [] ((record { name = e.name; position = e.position + 1 }) ∷ []) ++ t.queue;
       }
-  after_node node there = after ∙ ap (λ (y : Option Node). let n : Marks = record { marked = t.marked; queue = entry_past y e w ++ t.queue } in n) there
+  after_node node there = folded_more o (marks_of o.core) v.scans (record { entry = e; word = w })
+      ∙ ap (λ (y : Option Node). let n : Marks = record t { queue = entry_past y e w ++ t.queue } in n) there
 
   pub after_more : (node : Node) → node_of o.core.snapshot e.name ≡ Some node → is_last_word node e.position w ≡ false →
       marks_seen (scanned_by v w) ≡ with_first (record { name = e.name; position = e.position + 1 }) t
@@ -94,7 +75,7 @@ module _ (v : Seen) (w : ℕ) (first : marks_seen v ≡ with_first (entry_now v)
 
   pub after_last : (node : Node) → node_of o.core.snapshot e.name ≡ Some node → is_last_word node e.position w ≡ true → marks_seen (scanned_by v w) ≡ t
   after_last node there last = after_node node there ∙ ap (λ (b : Bool).
-      let n : Marks = record { marked = t.marked; queue = cond b [] ((record { name = e.name; position = e.position + 1 }) ∷ []) ++ t.queue } in n) last
+      let n : Marks = record t { queue = cond b [] ((record { name = e.name; position = e.position + 1 }) ∷ []) ++ t.queue } in n) last
 
 -- the next position of the same object
 pub goes_on : (v : Seen) (w at : ℕ) (s new : Segments) (before later : MarkerSeen) (position : ℕ) (h : IsScanning v s before at position)
@@ -102,7 +83,7 @@ pub goes_on : (v : Seen) (w at : ℕ) (s new : Segments) (before later : MarkerS
     → IsTied v.opening (with_name v.opening.core.snapshot (rest_of (marks_seen v)) (name_read v.opening.places position w)) new later
     → IsScanning (scanned_by v w) new later at (position + 1) × ((entry_now (scanned_by v w)).name ≡ (entry_now v).name)
 goes_on v w at s new before later position h node there more tied =
-    let is = after_more v w h.first node there (subst (λ p. is_last_word node p w ≡ false) (sym h.stands) more) in
+    let is = after_more v w node there (subst (λ p. is_last_word node p w ≡ false) (sym h.stands) more) in
     let entry : entry_now (scanned_by v w) ≡ record { name = (entry_now v).name; position = (entry_now v).position + 1 } =
     ap (λ (m : Marks). first_of m.queue) is in
     let rest : rest_of (marks_seen (scanned_by v w)) ≡
@@ -124,7 +105,7 @@ pub ends : (v : Seen) (w at : ℕ) (s new : Segments) (before later : MarkerSeen
     → IsTied v.opening (with_name v.opening.core.snapshot (rest_of (marks_seen v)) (name_read v.opening.places position w)) new later
     → IsTied v.opening (marks_seen (scanned_by v w)) new later
 ends v w at s new before later position h node there last tied =
-    let is = after_last v w h.first node there (subst (λ p. is_last_word node p w ≡ true) (sym h.stands) last) in
+    let is = after_last v w node there (subst (λ p. is_last_word node p w ≡ true) (sym h.stands) last) in
     rw (is ∙
     ap (λ p. with_name v.opening.core.snapshot (rest_of (marks_seen v)) (name_read v.opening.places p w)) h.stands) tied
 
@@ -150,13 +131,14 @@ begins v s before later at collects h e same = by_queue before.queue (marks_seen
         let marked_is : later.marked ≡ before.marked = ap (λ (k : MarkerSeen). k.marked) same in
         record {
           collects = collects;
-          first = (λ i. record { marked = (marks_seen v).marked; queue = (q ∙ sym (λ j. entry j ∷ drop 1 (q j))) i });
+          first = (λ i. record (marks_seen v) { queue = (q ∙ sym (λ j. entry j ∷ drop 1 (q j))) i });
           there = rw (ap (λ (k : Entry). k.name) entry) (rw b_is at a.0.0);
           stands = ap (λ (k : Entry). k.position) entry ∙ a.0.1;
           tied = record {
             snapshot = h.snapshot;
             shared = h.shared;
             marks = λ p c g. subst (λ n. IsMarkedAt s n p.at ↔ Contains (marks_seen v).marked p.name) (sym epoch_is) (h.marks p c g);
+            order = h.order;
             queue = rw (ap (drop 1) q) (rw ats_are at a.1);
             count = ap (λ n. n + 1) marked_is ∙ h.count;
           };

@@ -1,5 +1,5 @@
 -- One mark at an address: the room, the count, and the marks of the machine.
-use Rattle.nmgc_mark.proofs.Vocabulary.{ne_eqb, eq-eqb, ◌≡◌, ◌≢◌, inl, inr, ℕ, ◌+◌, ◌*◌, ◌<◌, ◌/◌, ◌%◌, Bool, true, false, not, ◌&&◌, cond, eqb, IsTrue, List, [], ◌∷◌, ◌++◌, length, length-append, refl, sym, ap, subst, ◌∙◌, arith, Option, Some, None, is_some, Contains, IsSome, Contains-append_left, Contains-push, Contains-push_cases, Name, World, node_of, shared_name, contains_head, contains_tail, contains_cases, IsEpoch, Entry, is_listed, entry_of, contains_listed, not_listed, Segments, IsSegments, IsBlockAt, MarksBlock, MarksPlace, IsSnapshotAt, IsMarkedAt, marks_place, marked_stands, Place, Opening, Marks, name_at, name_meant, with_name, MarkerSeen, HasRoomToMark, MarksAt, HasScanned, HasMarked, StandAsBefore, noted, IsRightSnapshot, AreQueued, IsTied, some_at, found_at, never}
+use Rattle.nmgc_mark.proofs.Vocabulary.{ne_eqb, eq-eqb, ◌≡◌, ◌≢◌, inl, inr, ℕ, ◌+◌, ◌*◌, ◌<◌, ◌/◌, ◌%◌, Bool, true, false, not, ◌&&◌, cond, eqb, IsTrue, List, [], ◌∷◌, ◌++◌, length, length-append, refl, sym, ap, subst, ◌∙◌, arith, Option, Some, None, is_some, Contains, IsSome, Contains-append_left, Contains-push, Contains-push_cases, Name, World, node_of, shared_name, contains_head, contains_tail, contains_cases, IsEpoch, joined, is_listed, entry_of, contains_listed, not_listed, Segments, IsSegments, IsBlockAt, MarksBlock, MarksPlace, IsSnapshotAt, IsMarkedAt, marks_place, marked_stands, Place, Opening, Marks, name_at, name_meant, with_name, MarkerSeen, HasRoomToMark, MarksAt, HasScanned, HasMarked, StandAsBefore, noted, IsRightSnapshot, AreQueued, IsTied, some_at, found_at, never}
 
 -- no block begins there, and nothing is marked
 no_place : (s : Segments) (epoch at : ℕ) → ((number block : ℕ) → IsBlockAt s number block at → ⊥) → MarksPlace s s epoch at false
@@ -92,7 +92,7 @@ count_case : (before : MarkerSeen) (at : ℕ) (answer : Bool) → (IsTrue answer
 count_case before at true room = record {
   epoch = refl;
   grows = omega arith;
-  pace = (let l = length-append before.queue (at ∷ []) in omega arith);
+  pace = omega arith;
   room = (let r = room refl in omega arith);
 }
 count_case before at false room = record { epoch = refl; grows = omega arith; pace = omega arith; room = refl }
@@ -114,13 +114,6 @@ noted_turns false at m = refl
 
 pub place_turns : (old new : Segments) (before later : MarkerSeen) (at : ℕ) → MarksAt old new before later at → later.turns ≡ before.turns
 place_turns old new before later at r = ap (λ (m : MarkerSeen). m.turns) r.marker ∙ noted_turns r.answer at before
-
-queued_more : (places : List Place) (ats : List ℕ) (entries : List Entry) (at : ℕ) (name : Name) → AreQueued places ats entries →
-    Contains places (record { at = at; name = name }) → AreQueued places (ats ++ at ∷ []) (entries ++ entry_of name ∷ [])
-queued_more places [] [] at name q c = ((c, refl), tt)
-queued_more places (a ∷ ats) (e ∷ es) at name q c = (q.0, queued_more places ats es at name q.1 c)
-queued_more places [] (e ∷ es) at name q c = absurd q
-queued_more places (a ∷ ats) [] at name q c = absurd q
 
 module _ (o : Opening) (m : Marks) (old new : Segments) (before : MarkerSeen) (at : ℕ) where
   abbrev S : World
@@ -144,13 +137,14 @@ module _ (o : Opening) (m : Marks) (old new : Segments) (before : MarkerSeen) (a
       λ k. elim ((p.marked q.at).0 k) [ inl g ↦ (h.marks q c ((p.snapshot q.at).0 s)).0 g | inr t ↦ never t.0 ],
       λ k. (p.marked q.at).1 (inl ((h.marks q c ((p.snapshot q.at).0 s)).1 k)),
     );
+    order = h.order;
     queue = h.queue;
     count = h.count;
   }
 
   tied_one : (name : Name) (answer : Bool) → new.layout ≡ old.layout → IsTied o m old before → MarksPlace old new before.epoch at answer →
       Contains o.places (record { at = at; name = name }) → IsTrue answer →
-      IsTied o (record { marked = m.marked ++ name ∷ []; queue = m.queue ++ entry_of name ∷ [] }) new (noted answer at before)
+      IsTied o (record m { marked = m.marked ++ name ∷ []; queue = joined m.order m.queue (entry_of name) }) new (noted answer at before)
   tied_one name false layout h p c t = never t
   tied_one name true layout h p c t = record {
     snapshot = right true layout h p;
@@ -166,7 +160,8 @@ module _ (o : Opening) (m : Marks) (old new : Segments) (before : MarkerSeen) (a
         | inr e ↦ (p.marked q.at).1 (inr (refl, ap (λ (y : Place). y.at) (h.snapshot.apart.one q (record { at = at; name = name }) d c (inl (sym e)))))
       ],
     );
-    queue = queued_more o.places before.queue m.queue at name h.queue c;
+    order = h.order;
+    queue = rw h.order ((c, refl), h.queue);
     count = let l = length-append m.marked (name ∷ []) in let e = h.count in omega arith;
   }
 
@@ -189,7 +184,7 @@ module _ (o : Opening) (m : Marks) (old new : Segments) (before : MarkerSeen) (a
               subst (λ (y : Place). IsSome (node_of S y.name)) same g.2
 
           by_test : (a b : Bool) → is_some (node_of S name) ≡ a → is_listed name m.marked ≡ b →
-              IsTied o (cond (a && not b) (record { marked = m.marked ++ name ∷ []; queue = m.queue ++ entry_of name ∷ [] }) m) new (noted answer at before)
+              IsTied o (cond (a && not b) (record m { marked = m.marked ++ name ∷ []; queue = joined m.order m.queue (entry_of name) }) m) new (noted answer at before)
           by_test true false e1 e2 = tied_one name answer layout h p here (elim (h.snapshot.complete (record { at = at; name = name }) here e1) [
             | inl g ↦ absurd (not_listed name m.marked e2 (subst (λ n. Contains m.marked n) (sym g) h.shared))
             | inr s ↦ p.to_mark.1 (s, λ k. not_listed name m.marked e2 ((h.marks (record { at = at; name = name }) here s).0 k))

@@ -22,7 +22,7 @@ StandAsBefore old new = (words : List ℕ) (allocation : AllocState) → StandsF
 
 -- the marker after a try to mark: if the block was marked, its address is queued and counted
 abbrev pub noted : Bool → ℕ → MarkerSeen → MarkerSeen
-noted answer at m = if answer then record m { queue = m.queue ++ at ∷ []; spare = m.spare - 1; marked = m.marked + 1 } else m
+noted answer at m = if answer then record m { queue = at ∷ m.queue; spare = m.spare - 1; marked = m.marked + 1 } else m
 
 -- a try to mark at an address: the block that begins there is marked and queued if it is in the snapshot and wasn't marked
 pub record MarksAt (old new : Segments) (before after : MarkerSeen) (at : ℕ) : Type 0 where

@@ -4,7 +4,7 @@
 use Rattle.std.specs.Prelude.{ℕ, ◌≡◌, ◌+◌, ◌≤◌, ◌⊎◌, ◌↔◌, List, [], ◌∷◌, length, Contains, IsSome}
 use Rattle.nmgc_world_spec.specs.{declared.value.Name.Name, World.node_of, World.shared_name}
 use Rattle.nmgc_object.specs.{Words.word_total, FinQueue.FinQueue, declared.layout.Layout.Layout, declared.size.TheConstants.HEADER_WORDS}
-use Rattle.nmgc_snapshot_laws.specs.declared.event.Entry.{Entry}
+use Rattle.nmgc_snapshot_laws.specs.{declared.event.Entry.Entry, State.newest_first}
 use Rattle.nmgc_alloc.specs.{AllocState.Segments, Blocks.IsSnapshotAt, Blocks.IsMarkedAt}
 use Rattle.nmgc_heap_spec.specs.Objects.{Place}
 use Rattle.nmgc_round.specs.{View.Opening, Marking.Marks, Marking.with_name, Marking.name_at, Marking.name_meant}
@@ -30,13 +30,14 @@ AreQueued places [] [] = Unit {0}
 AreQueued places (at ∷ ats) (entry ∷ entries) = (Contains places (record { at = at; name = entry.name }) × (entry.position ≡ 0)) × AreQueued places ats entries
 AreQueued places _ _ = ⊥
 
--- the tie: the marker has the machine's marks and queue. A block is marked with the epoch exactly if the name at its address
--- is marked. The queue has the addresses of the queued names, with no position read yet. The marker counts the marked names
--- without g, which counts as marked and has no block.
+-- the tie: the marker has the machine's marks and queue, newest first. A block is marked with the epoch exactly if the name at
+-- its address is marked. The queue has the addresses of the queued names, with no position read yet. The marker counts the
+-- marked names without g, which counts as marked and has no block.
 pub record IsTied (o : Opening) (m : Marks) (s : Segments) (marker : MarkerSeen) : Type 0 where
   pub snapshot : IsRightSnapshot o s
   pub shared : Contains m.marked shared_name
   pub marks : (p : Place) → Contains o.places p → IsSnapshotAt s p.at → IsMarkedAt s marker.epoch p.at ↔ Contains m.marked p.name
+  pub order : m.order ≡ newest_first
   pub queue : AreQueued o.places marker.queue m.queue
   pub count : marker.marked + 1 ≡ length m.marked
 

@@ -1,10 +1,10 @@
 -- Scanning: the marks of the collector's view, and the progress of an object's scan.
-use Rattle.std.specs.Prelude.{ℕ, ◌≡◌, ◌+◌, ◌<◌, ◌≤◌, Bool, true, false, not, ◌&&◌, ◌==◌, List, ◌∷◌, ◌++◌, drop, Contains}
+use Rattle.std.specs.Prelude.{ℕ, ◌≡◌, ◌+◌, ◌<◌, ◌≤◌, Bool, true, false, not, ◌&&◌, ◌==◌, List, ◌∷◌, ◌++◌, Contains}
 use Rattle.nmgc_world_spec.specs.declared.node.Kind.{Kind}
 use Rattle.nmgc_world_spec.specs.declared.node.Kind.TheVariants as kind
 use Rattle.nmgc_snapshot_laws.specs.declared.event.Entry.{Entry}
 use Rattle.nmgc_alloc.specs.AllocState.{Segments}
-use Rattle.nmgc_round.specs.{declared.table.Round.Round, View.Seen, View.Scan, Marking.Marks, Marking.marks_after, Ready.first_of, Seat.RoundSeat, Seat.IsAt, Seat.seen}
+use Rattle.nmgc_round.specs.{declared.table.Round.Round, View.Seen, View.Scan, Marking.Marks, Marking.rest_of, Marking.marks_after, Ready.first_of, Seat.RoundSeat, Seat.IsAt, Seat.seen}
 use Rattle.nmgc_mark.specs.{Seen.MarkerSeen, Marker.HasMarked, Tie.IsTied}
 
 -- the marks of a view: the opening's marks after the collector's scans
@@ -15,12 +15,9 @@ marks_seen v = marks_after v.opening v.scans
 abbrev pub entry_now : Seen → Entry
 entry_now v = first_of (marks_seen v).queue
 
--- marks without the first entry of the queue, and marks with a further entry at the front
-abbrev pub rest_of : Marks → Marks
-rest_of m = record { marked = m.marked; queue = drop 1 m.queue }
-
+-- marks with a further entry at the front
 abbrev pub with_first : Entry → Marks → Marks
-with_first entry m = record { marked = m.marked; queue = entry ∷ m.queue }
+with_first entry m = record m { queue = entry ∷ m.queue }
 
 -- the collector's seat of this round
 abbrev pub IsCollector : Round → RoundSeat → Type 0

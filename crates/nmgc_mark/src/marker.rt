@@ -1,15 +1,15 @@
 //! The marker of one cycle: its beginning, and the effect of one mark. All marked addresses are in one list in the order of
-//! marking. The addresses before an index were scanned, and the rest is the queue. So an address is queued at most once in a
-//! cycle, and the list never needs more room than there are blocks.
+//! marking. The queue is a stack: the object found last is scanned first, so a list of objects is followed to its end. An
+//! address is queued at most once in a cycle, so neither the list nor the stack needs more room than there are blocks.
 //!
 //! Easy to get wrong: a pointer may lead to g or to a new object, and no block begins there. So each mark is a try, and a
 //! single look-up finds whether a block begins at the address, and which block.
-ghost use Rattle.std.specs.Prelude.{ℕ, ◌≡◌, ◌+◌, ◌-◌, ◌*◌, ◌^◌, ◌<◌, ◌≤◌, [], ◌∷◌, ◌++◌, ◌↔◌, length, map, Contains, IsTrue, IfSome, IfNone, IfOk, OnErr};
+ghost use Rattle.std.specs.Prelude.{ℕ, ◌≡◌, ◌+◌, ◌-◌, ◌*◌, ◌^◌, ◌<◌, ◌≤◌, [], ◌∷◌, ◌↔◌, length, map, Contains, IsTrue, IfSome, IfNone, IfOk, OnErr};
 ghost use Rattle.std.specs.List.{flat_map};
 ghost use Rattle.nmgc_segment.specs.Marks.{IsEpoch};
 ghost use Rattle.nmgc_alloc.specs.Segments.{IsBlockAt};
 ghost use Rattle.nmgc_object.specs.{declared.layout.TheConstants.FIRST_PLACE, Layouts.IsLayout};
-ghost use Rattle.nmgc_snapshot_laws.specs.State.{opening};
+ghost use Rattle.nmgc_snapshot_laws.specs.State.{newest_first, opening_in};
 ghost use Rattle.nmgc_round.specs.{View.Opening, Marking.Marks, Marking.marks_of, Marking.with_name, Marking.name_at, Marking.name_meant, Seat.IsAt, Seat.Knows, Seat.seen};
 ghost use Rattle.nmgc_mark.specs.{Marker.HasRoomToMark, Marker.MarksAt, Marker.HasMarked, Marker.places, Marker.blank, Beginning.IsBeginning, Beginning.slots_of, Beginning.queue_words, Beginning.most_blocks, Tie.IsTied, Tie.with_places, Tie.with_words, Tie.with_queues};
 
@@ -41,12 +41,12 @@ pub struct Marker {
     pub turns: u64,
     epoch: u8,
     found: Room<Address>,
-    first: u32,
+    stack: Room<Address>,
     limit: u32,
 }
 
 impl Model for Marker {
-    ghost use Rattle.std.specs.Prelude.{◌-◌, ◌+◌, ◌≤◌, drop, length};
+    ghost use Rattle.std.specs.Prelude.{◌-◌, ◌+◌, ◌≤◌, reverse, length};
     ghost use Rattle.nmgc_segment.specs.Marks.{IsEpoch};
     ghost use Rattle.nmgc_mark.specs.{Seen.MarkerSeen, Marker.places};
 
@@ -54,22 +54,23 @@ impl Model for Marker {
 
     ghost view = { λ m. record {
       epoch = m.epoch;
-      queue = drop m.first (places m.found.items);
+      queue = places (reverse m.stack.items);
       spare = m.limit - length m.found.items;
       marked = length m.found.items;
       turns = m.turns;
     } };
 
-    ghost invariant = { λ m. IsEpoch m.epoch × (m.first ≤ length m.found.items) × (length m.found.items ≤ m.limit) × (m.limit ≤ length m.found.items + m.found.spare) };
+    ghost invariant = { λ m. IsEpoch m.epoch × (length m.stack.items ≤ length m.found.items) × (length m.found.items ≤ m.limit) × (m.limit ≤ length m.found.items + m.found.spare) × (m.limit ≤ length m.stack.items + m.stack.spare) };
 }
 
 /// The memory of the last cycle's marker, for the next marker. Contracts see nothing of it.
 ///
 /// The C library gives a large list back to the system when it is freed. That would take time at each closing, for 4
-/// bytes a mark, and the next marker would touch new pages. So the list stays until the run ends, but its addresses don't.
+/// bytes a mark, and the next marker would touch new pages. So both lists stay until the run ends, but their addresses don't.
 #[derive(Drop)]
 pub struct MarkerMemory {
     found: Room<Address>,
+    stack: Room<Address>,
 }
 
 impl Model for MarkerMemory {
@@ -83,17 +84,8 @@ impl MarkerMemory {
     pub fn new(alloc: Global) -> MarkerMemory {
         MarkerMemory {
             found: Room::new(alloc),
+            stack: Room::new(alloc),
         }
-    }
-
-    // Lends the memory, as an empty list. Until a marker is kept, nothing is left. Takes no memory.
-    fn lend(&mut self, alloc: Global) -> Room<Address>
-        ensures empty { result.items ≡ [] }
-        ensures memory { self.new ≡ self.old }
-    {
-        let mut found = mem::replace(&mut self.found, Room::new(alloc));
-        found.clear();
-        found
     }
 
     /// Keeps the memory of a marker whose cycle was closed. Takes no memory.
@@ -104,11 +96,21 @@ impl MarkerMemory {
             turns: _,
             epoch: _,
             found,
-            first: _,
+            stack,
             limit: _,
         } = marker;
         self.found = found;
+        self.stack = stack;
     }
+}
+
+// Lends a list's memory, as an empty list, and leaves a list without memory. Takes no memory.
+fn lend(list: &mut Room<Address>, alloc: Global) -> Room<Address>
+    ensures { result.items ≡ [] }
+{
+    let mut lent = mem::replace(list, Room::new(alloc));
+    lent.clear();
+    lent
 }
 
 /// Returns the greatest number of blocks that can be in use in a heap of this layout. Takes no memory.
@@ -125,22 +127,30 @@ impl Marker {
         requires { IsEpoch epoch }
         ensures { IfOk result (λ marker. marker ≡ blank epoch blocks) }
     {
-        Marker::over(Room::new(alloc), epoch, blocks)
+        Marker::over(Room::new(alloc), Room::new(alloc), epoch, blocks)
     }
 
-    // The same in an empty list, which takes memory only if it has room for fewer blocks.
-    fn over(found: Room<Address>, epoch: u8, blocks: u32) -> Result<Marker, NoMemory>
+    // The same in empty lists, which take memory only if they have room for fewer blocks.
+    fn over(
+        found: Room<Address>,
+        stack: Room<Address>,
+        epoch: u8,
+        blocks: u32,
+    ) -> Result<Marker, NoMemory>
         requires epoch { IsEpoch epoch }
-        requires empty { found.items ≡ [] }
+        requires found { found.items ≡ [] }
+        requires stack { stack.items ≡ [] }
         ensures { IfOk result (λ marker. marker ≡ blank epoch blocks) }
     {
         let mut found = found;
         found.reserve(blocks)?;
+        let mut stack = stack;
+        stack.reserve(blocks)?;
         Ok(Marker {
             turns: 0,
             epoch,
             found,
-            first: 0,
+            stack,
             limit: blocks,
         })
     }
@@ -168,10 +178,12 @@ impl Marker {
         ensures err { OnErr result (segments.new ≡ segments.old) }
         ensures tied { IfOk result (λ marker. (o : Opening) →
             IsBeginning o segments.old epoch (W.words words.old) (flat_map M.registers mutators.now) (map M.queue mutators.now) →
-            IsTied o (marks_of (opening o.core.snapshot)) segments.new marker) }
+            IsTied o (marks_of (opening_in newest_first o.core.snapshot)) segments.new marker) }
     {
         let blocks = most_blocks(segments.layout());
-        let mut marker = Marker::over(memory.lend(alloc), epoch, blocks)?;
+        let found = lend(&mut memory.found, alloc);
+        let stack = lend(&mut memory.stack, alloc);
+        let mut marker = Marker::over(found, stack, epoch, blocks)?;
         marker.mark_registers(segments, mutators);
         marker.mark_queues(segments, mutators);
         marker.mark_shared(words, segments);
@@ -302,7 +314,7 @@ impl Marker {
     pub fn is_empty(&self) -> bool
         ensures { IsTrue result ↔ (self.now.queue ≡ []) }
     {
-        self.first as usize == self.found.items().len()
+        self.stack.items().is_empty()
     }
 
     /// Takes the first address off the queue and returns it, or returns `None` exactly if the queue is empty. The block at
@@ -311,15 +323,10 @@ impl Marker {
         ensures some { IfSome result (λ at. (self.old.queue ≡ at.0 ∷ self.new.queue) × (self.new ≡ record self.old { queue = self.new.queue })) }
         ensures none { IfNone result ((self.old.queue ≡ []) × (self.new ≡ self.old)) }
     {
-        if self.first as usize == self.found.items().len() {
-            return None;
-        }
-        let at = self.found.items()[self.first as usize];
-        self.first += 1;
-        Some(at)
+        self.stack.take_last()
     }
 
-    // If `scanned` is a multiple of `AHEAD`, looks at the headers of the next `AHEAD` objects in the queue, or of all if
+    // If `scanned` is a multiple of `AHEAD`, looks at the headers of the first `AHEAD` objects in the queue, or of all if
     // there are fewer. Headers lie far apart, so the waits for memory overlap. The seat's view stays.
     pub(crate) fn look_ahead(&self, round: &Round, seat: &mut CollectorSeat, scanned: u32)
         requires { IsAt round.now seat.old }
@@ -328,20 +335,20 @@ impl Marker {
         if scanned % AHEAD != 0 {
             return;
         }
-        let found = self.found.items();
-        let first = self.first as usize;
-        let end = found.len().min(first + AHEAD as usize);
-        for index in first..end {
-            round.look_ahead(seat, found[index]);
+        let waiting = self.stack.items();
+        let end = waiting.len();
+        for index in end.saturating_sub(AHEAD as usize)..end {
+            round.look_ahead(seat, waiting[index]);
         }
     }
 
-    // Appends the address of a block that was just marked to the queue, and counts the block. Requires room for it.
+    // Puts the address of a block that was just marked in front of the queue, and counts the block. Requires room for it.
     fn queue(&mut self, at: Address)
         requires { 0 < self.old.spare }
-        ensures { self.new ≡ record self.old { queue = self.old.queue ++ at.0 ∷ []; spare = self.old.spare - 1; marked = self.old.marked + 1 } }
+        ensures { self.new ≡ record self.old { queue = at.0 ∷ self.old.queue; spare = self.old.spare - 1; marked = self.old.marked + 1 } }
     {
         self.found.add(at);
+        self.stack.add(at);
     }
 
     // Marks and queues the block that begins at an address, if a block of the snapshot begins there and isn't marked yet.

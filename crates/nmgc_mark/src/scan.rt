@@ -10,8 +10,8 @@
 //! field is scanned before the loop, which looks for no result.
 ghost use Rattle.std.specs.Prelude.{◌≡◌, ◌+◌, ◌<◌};
 ghost use Rattle.nmgc_object.specs.{Words.word_total, declared.size.TheConstants.HEADER_WORDS};
-ghost use Rattle.nmgc_round.specs.{Marking.with_name, Marking.name_meant, Ready.CanScan, Ready.scanned_by, Known.FindsScan, View.Seen};
-ghost use Rattle.nmgc_mark.specs.{Marker.HasRoomToMark, Marker.HasMarked, Stopped.WordsShow, Tie.IsTied, Work.IsScanning, Work.IsDone, Work.SeatShows, Work.marks_seen, Work.rest_of, Work.fields_scanned, Work.has_results};
+ghost use Rattle.nmgc_round.specs.{Marking.with_name, Marking.name_meant, Marking.rest_of, Ready.CanScan, Ready.scanned_by, Known.FindsScan, View.Seen};
+ghost use Rattle.nmgc_mark.specs.{Marker.HasRoomToMark, Marker.HasMarked, Stopped.WordsShow, Tie.IsTied, Work.IsScanning, Work.IsDone, Work.SeatShows, Work.marks_seen, Work.fields_scanned, Work.has_results};
 
 use crate::marker::Marker;
 use nmgc_alloc::Segments;

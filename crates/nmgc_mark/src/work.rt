@@ -6,8 +6,8 @@
 //!
 //! Before each object each mutator's ring is polled once. At most one block of remembered addresses moves from the ring to
 //! the collector's list, and the stop marks them. So a mutator finds free slots again while the marker is at work. Marking
-//! waits for memory more than it computes, since the next object's header is far away. So at every eighth object the headers
-//! of the next eight are looked at together (`Round::look_ahead`), which is no scan.
+//! waits for memory more than it computes, if the next object's header is far away. So at every eighth object the headers of
+//! the first eight in the queue are looked at together (`Round::look_ahead`), which is no scan.
 //!
 //! Easy to get wrong: only `empty` says whether anything is left. A round that scans its whole quota may leave nothing.
 ghost use Rattle.std.specs.Prelude.{◌≡◌, ◌<◌, ◌≤◌, [], ◌↔◌, IsTrue, length};

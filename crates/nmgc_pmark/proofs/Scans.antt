@@ -1,5 +1,5 @@
 -- Scans alone mark only names that are reachable from the roots along strong fields.
-use Rattle.nmgc_pmark.proofs.Vocabulary.{◌≡◌, ℕ, List, [], ◌∷◌, ◌++◌, zero, suc, length, refl, sym, ap, subst, ◌∙◌, arith, Option, Some, None, inl, inr, ◌⊎◌, true, false, Contains, get_or_past, Contains-append_left, Contains-append_right, Contains-append_cases, Contains-get_or, Contains-push_cases, cases_lt, get_or_from_slice_get, MutatorState, Node, Name, Value, World, IsWorld, state_of, node_of, no_mutator, shared_name, IsReached, IsRoot, strong_fields, contains_head, contains_tail, nothing_in, one_is, contains_flat, flat_contains, place_of, has_result, Entry, State, names_of, mark_name, mark_read, mark_values, root_values, unmarked, opening, advanced, after_scan, field_at, read_at, Facts, refers, mark_cases, opening_facts, none_of, read_cases, scan_facts, Happening, did, scanned, replay, AreScans, IsStart, roots_of}
+use Rattle.nmgc_pmark.proofs.Vocabulary.{◌≡◌, ℕ, List, [], ◌∷◌, ◌++◌, zero, suc, length, refl, sym, ap, subst, ◌∙◌, arith, Option, Some, None, inl, inr, ◌⊎◌, true, false, Contains, get_or_past, Contains-append_left, Contains-append_right, Contains-append_cases, Contains-get_or, Contains-push_cases, cases_lt, get_or_from_slice_get, MutatorState, Node, Name, Value, World, IsWorld, state_of, node_of, no_mutator, shared_name, IsReached, IsRoot, strong_fields, contains_head, contains_tail, nothing_in, one_is, contains_flat, flat_contains, place_of, has_result, Entry, State, names_of, mark_name, mark_read, mark_values, root_values, unmarked, newest_first, opening_in, after_scan, field_at, read_at, Facts, refers, mark_cases, opening_facts, none_of, read_cases, scan_facts, Happening, did, scanned, replay, AreScans, IsStart, roots_of}
 use Rattle.std.specs.Prelude.{flat_map}
 use Rattle.nmgc_world_spec.specs.declared.value.Value.TheVariants as value
 
@@ -39,10 +39,6 @@ read s (Some value.Nil) = as_it_is s
 read s (Some (value.Number n)) = as_it_is s
 read s (Some (value.Ref name)) = named s name
 
-moved : (s : State) (queue : List Entry) → IsAsBefore s (advanced s queue)
-moved s [] = as_it_is s
-moved s (entry ∷ rest) = record { world = refl; snapshot = refl; is_closed = refl; owed = refl; pushed = refl }
-
 valued : (s : State) (values : List Value) → IsAsBefore s (mark_values s values)
 valued s [] = as_it_is s
 valued s (value.Nil ∷ values) = valued s values
@@ -59,10 +55,6 @@ read_marked s None other c = inl c
 read_marked s (Some value.Nil) other c = inl c
 read_marked s (Some (value.Number n)) other c = inl c
 read_marked s (Some (value.Ref name)) other c = elim (name_marked s name other c) [ inl old ↦ inl old | inr e ↦ inr (ap (λ (n : Name). Some (value.Ref n)) e) ]
-
-moved_marked : (s : State) (queue : List Entry) → (advanced s queue).marked ≡ s.marked
-moved_marked s [] = refl
-moved_marked s (entry ∷ rest) = refl
 
 values_marked : (s : State) (values : List Value) (other : Name) → Contains (mark_values s values).marked other → Contains s.marked other ⊎
     Contains values (value.Ref other)
@@ -127,8 +119,8 @@ module _ (w : World) (h : IsWorld w) where
   scan_keeps s [] e i = i
   scan_keeps s (entry ∷ rest) e i =
       let o : Option Value = read_at (node_of s.world entry.name) entry.position in
-      let t : State = mark_read s o in
-      let same : IsAsBefore s (advanced t t.queue) = and_then s t (advanced t t.queue) (read s o) (moved t t.queue) in
+      let from : State = record s { queue = rest } in
+      let same : IsAsBefore from (mark_read from o) = read from o in
       let c : Contains s.queue entry = subst (λ (q : List Entry). Contains q entry) (sym e) (contains_head entry rest) in
       record {
         facts = scan_facts s i.facts (subst IsWorld (sym i.world) h) (entry ∷ rest) e;
@@ -136,7 +128,7 @@ module _ (w : World) (h : IsWorld w) where
         snapshot = same.snapshot ∙ i.snapshot;
         owed = λ m. ap (λ (l : List (List Name)). names_of l m) same.owed ∙ i.owed m;
         pushed = λ m. ap (λ (l : List (List Name)). names_of l m) same.pushed ∙ i.pushed m;
-        reached = λ name d. elim (read_marked s o name (subst (λ (l : List Name). Contains l name) (moved_marked t t.queue) d)) [
+        reached = λ name d. elim (read_marked from o name d) [
           | inl old ↦ i.reached name old
           | inr is ↦ read_reached s i entry c (node_of s.world entry.name) refl entry.position refl name is
         ];
@@ -187,16 +179,16 @@ module _ (w : World) (h : IsWorld w) where
     ]
   ]
 
-  opened : IsScanned (opening w)
+  opened : IsScanned (opening_in newest_first w)
   opened =
-      let same : IsAsBefore (unmarked w) (opening w) = valued (unmarked w) (root_values w) in
+      let same : IsAsBefore (unmarked newest_first w) (opening_in newest_first w) = valued (unmarked newest_first w) (root_values w) in
       record {
-        facts = opening_facts w h;
+        facts = opening_facts newest_first w h;
         world = same.world;
         snapshot = same.snapshot;
         owed = λ m. ap (λ (l : List (List Name)). names_of l m) same.owed ∙ none_of (length w.mutators) m;
         pushed = λ m. ap (λ (l : List (List Name)). names_of l m) same.pushed ∙ none_of (length w.mutators) m;
-        reached = λ name c. elim (values_marked (unmarked w) (root_values w) name c) [
+        reached = λ name c. elim (values_marked (unmarked newest_first w) (root_values w) name c) [
           | inl g ↦ IsReached.start name (inl (sym (one_is shared_name name g)))
           | inr d ↦ opened_reached name d
         ];
@@ -208,5 +200,5 @@ module _ (w : World) (h : IsWorld w) where
   scans_keep s (scanned entry v ∷ events) scans i = scans_keep (after_scan s s.queue) events scans (scan_keeps s s.queue refl i)
 
   -- after scans alone
-  pub scanned_from : (events : List Happening) → AreScans events → IsScanned (replay (opening w) events)
-  scanned_from events scans = scans_keep (opening w) events scans opened
+  pub scanned_from : (events : List Happening) → AreScans events → IsScanned (replay (opening_in newest_first w) events)
+  scanned_from events scans = scans_keep (opening_in newest_first w) events scans opened

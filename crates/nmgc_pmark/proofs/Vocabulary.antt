@@ -15,7 +15,7 @@ pub use Rattle.nmgc_round.specs.{Events.Happening, Events.did, Events.replay, Ev
 pub use Rattle.nmgc_run_laws.specs.laws.Places.{block_used, blocks_at_stop}
 pub use Rattle.nmgc_run_spec.specs.Heap.{HoldsAtStop, snapshots}
 pub use Rattle.nmgc_run_spec.specs.Terms.{queues_of, registers_of}
-pub use Rattle.nmgc_snapshot_laws.specs.{Facts.Facts, Machine.advanced, Machine.after_scan, Scan.field_at, Scan.read_at, State.State, State.mark_name, State.mark_read, State.mark_values, State.names_of, State.opening, State.root_values, State.unmarked, declared.event.Entry.Entry, laws.Lives.refers, laws.Marking.mark_cases, laws.Openings.no_names as none_of, laws.Openings.opening_facts, laws.ScanReads.read_cases, laws.Scans.scan_facts}
+pub use Rattle.nmgc_snapshot_laws.specs.{Facts.Facts, Machine.after_scan, Scan.field_at, Scan.read_at, State.State, State.mark_name, State.mark_read, State.mark_values, State.names_of, State.newest_first, State.opening_in, State.root_values, State.unmarked, declared.event.Entry.Entry, laws.Lives.refers, laws.Marking.mark_cases, laws.Openings.no_names as none_of, laws.Openings.opening_facts, laws.ScanReads.read_cases, laws.Scans.scan_facts}
 pub use Rattle.nmgc_world_laws.specs.Holds.{has_result}
 pub use Rattle.nmgc_world_spec.specs.{Reach.IsBefore, Reach.IsInOrder, Reach.IsReached, Reach.IsRoot, Reach.Lists, Reach.RefersTo, Reach.strong_fields, World.shared_name, World.World, World.held_by, World.no_mutator, World.node_of, World.state_of, Known.IsKnown, Known.IsNodeOf, Known.IsWorld, declared.mutator_state.MutatorState.MutatorState, declared.node.Node.Node, declared.node.Node.TheVariants.Arr, declared.node.Node.TheVariants.Con, declared.node.Node.TheVariants.Stack, declared.node.Node.TheVariants.Thunk, declared.node.Node.TheVariants.Var, declared.node.Node.TheVariants.Weak, declared.value.Name.Name, declared.value.Value.Value, laws.Orders.name_cases, laws.Orders.not_before_itself as never_before, laws.Orders.same_name}
 pub use Rattle.std.proofs.{Common.Bool, Common.List, Common.None, Common.Ok, Common.Option, Common.Result, Common.Some, Common.[], Common.ap, Common.append-nil, Common.append_assoc, Common.arith, Common.cond, Common.drop, Common.eq-eqb, Common.eqb, Common.false, Common.get_or, Common.get_or-drop, Common.inl, Common.inr, Common.length, Common.length-append, Common.length-drop, Common.length-set, Common.length-take-le, Common.map, Common.ne_eqb, Common.refl, Common.replicate, Common.rules, Common.set, Common.subst, Common.suc, Common.sym, Common.take, Common.true, Common.true≢false, Common.vec_capacity, Common.vec_len, Common.zero, Common.ℕ, Common.⊎_elim, Common.◌%◌, Common.◌*◌, Common.◌++◌, Common.◌+◌, Common.◌-◌, Common.◌<◌, Common.◌↔◌, Common.◌∙◌, Common.◌∷◌, Common.◌≡◌, Common.◌≢◌, Common.◌≤◌, Common.◌⊎◌, Math.Nat.mod-lt, Math.Seq.take-append_seam, Math.Seq.take-suc}

@@ -1,7 +1,7 @@
 -- Several markers against the one marker of a cycle: from the registers and queues of a snapshot they mark the same objects.
 use Rattle.std.specs.Prelude.{ℕ, ◌≡◌, ◌≢◌, ◌↔◌, List, slice_get, Some, Contains}
 use Rattle.nmgc_world_spec.specs.{declared.value.Name.Name, Known.IsWorld, World.shared_name}
-use Rattle.nmgc_snapshot_laws.specs.State.{opening}
+use Rattle.nmgc_snapshot_laws.specs.State.{newest_first, opening_in}
 use Rattle.nmgc_alloc.specs.{AllocState.Segments, Blocks.IsSnapshotAt, Blocks.IsMarkedAt}
 use Rattle.nmgc_heap_spec.specs.Objects.{Place}
 use Rattle.nmgc_round.specs.View.{Opening}
@@ -15,7 +15,7 @@ IsClaimed by name = (k : ℕ) × (names : List Name) × (slice_get by k ≡ Some
 -- the one marker, done at the stop of its snapshot: marking began there, only scans happened since, and nothing is queued
 pub record IsMarkedAlone (o : Opening) (s : Segments) (marker : MarkerSeen) : Type 0 where
   pub world : IsWorld o.core.snapshot
-  pub begun : o.core ≡ opening o.core.snapshot
+  pub begun : o.core ≡ opening_in newest_first o.core.snapshot
   pub finished : HasFinished o s marker
 
 -- the law of one marker and several: suppose that the one marker began at a snapshot and scanned to its end. Then the block

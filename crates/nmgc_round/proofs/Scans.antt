@@ -1,5 +1,5 @@
 -- The scan load: the marking machine reads the value that the word represents, and the fold of the scans follows it.
-use Rattle.nmgc_round.proofs.Vocabulary.{◌≡◌, ◌≢◌, ◌⊎◌, inl, inr, ℕ, zero, suc, ◌+◌, ◌*◌, ◌/◌, ◌%◌, ◌<◌, ◌≤◌, Bool, true, false, not, ◌&&◌, ◌||◌, cond, eqb, leb, List, [], ◌∷◌, ◌++◌, length, get_or, set, refl, sym, ap, subst, ◌∙◌, arith, slice_index, Option, Some, None, is_some, ne_eqb, eq-eqb, leb-false, Contains, IsSome, slice_get, slice_get-get_or, slice_get_past, cases_lt, and_parts, eqb_tells, Contains-append_cases, Contains-push_cases, some, get_elem?, Name, Value, Node, Con, Var, Arr, Thunk, Weak, Stack, Kind, World, node_of, is_some_of, contains_head, contains_tail, one_is, Header, HEADER_WORDS, FIRST_PLACE, header_word, IsHeader, word_total, IsSafe, FindsEntry, Opening, Seen, Marks, marks_of, marks_after, name_at, name_meant, name_read, with_name, is_thunk, is_last_word, entry_past, first_past, after_word, offset_of, Object, place_of, free_of, IsLater, IsObject, IsIn, now, IsRead, IsQueued, Keeps, AddsScan, CanScan, scanned_by, first_of, Entry, State, is_new, is_listed, mark_read, entry_of, fields_of, read_at, field_at, is_last, moved_on, advanced, after_scan, has_result, header_of, size_of, slots_of, Place, Means, HasSlots, AllMean, HasFields, KeepsFree, fields_of_slots, free_of_slots, lies_above, lies_within, marks_if, some_at, found_at}
+use Rattle.nmgc_round.proofs.Vocabulary.{◌≡◌, ◌≢◌, ◌⊎◌, inl, inr, ℕ, zero, suc, ◌+◌, ◌*◌, ◌/◌, ◌%◌, ◌<◌, ◌≤◌, Bool, true, false, not, ◌&&◌, ◌||◌, cond, drop, eqb, leb, List, [], ◌∷◌, ◌++◌, length, get_or, set, refl, sym, ap, subst, ◌∙◌, arith, slice_index, Option, Some, None, is_some, ne_eqb, eq-eqb, leb-false, Contains, IsSome, slice_get, slice_get-get_or, slice_get_past, cases_lt, and_parts, eqb_tells, Contains-append_cases, joined_cases, some, get_elem?, Name, Value, Node, Con, Var, Arr, Thunk, Weak, Stack, Kind, World, node_of, is_some_of, contains_head, contains_tail, one_is, Header, HEADER_WORDS, FIRST_PLACE, header_word, IsHeader, word_total, IsSafe, FindsEntry, Opening, Seen, Marks, marks_of, marks_after, name_at, name_meant, name_read, with_name, is_thunk, is_last_word, entry_past, rest_of, after_word, offset_of, Object, place_of, free_of, IsLater, IsObject, IsIn, now, IsRead, IsQueued, Keeps, AddsScan, CanScan, scanned_by, first_of, Entry, State, joined, is_new, is_listed, with_mark, mark_read, entry_of, fields_of, read_at, field_at, is_last, moved_on, advanced, after_scan, has_result, header_of, size_of, slots_of, Place, Means, HasSlots, AllMean, HasFields, KeepsFree, fields_of_slots, free_of_slots, lies_above, lies_within, marks_if, some_at, found_at}
 use Rattle.nmgc_world_spec.specs.declared.value.Value.TheVariants as value
 use Rattle.nmgc_world_spec.specs.declared.node.Kind.TheVariants as kind
 use Rattle.nmgc_round.proofs.{Standing.later_of, Lists.pointer_means, Runs.same_snapshot, Runs.rest_read, Keeping.scan_law}
@@ -135,35 +135,21 @@ mark_is s (Some value.Nil) = refl
 mark_is s (Some (value.Number n)) = refl
 mark_is s (Some (value.Ref name)) = marks_if (is_new s name) s name
 
--- a queue that has a first entry still has it
-queue_if : (b : Bool) (m : Marks) (name : Name) (entry : Entry) (rest : List Entry) → m.queue ≡ entry ∷ rest → (more : List Entry) ×
-    ((cond b (record { marked = m.marked ++ name ∷ []; queue = m.queue ++ entry_of name ∷ [] }) m).queue ≡ entry ∷ more)
-    × ((e : Entry) → Contains more e → Contains rest e ⊎ ((b ≡ true) × (e ≡ entry_of name)))
-queue_if true m name entry rest q = (
-  rest ++ entry_of name ∷ [],
-  ap (λ (l : List Entry). l ++ entry_of name ∷ []) q,
-  λ e c. elim (Contains-push_cases rest (entry_of name) e c) [ inl d ↦ inl d | inr d ↦ inr (refl, sym d) ],
-)
-queue_if false m name entry rest q = (rest, q, λ e c. inl c)
-
-still_first : (snapshot : World) (m : Marks) (o : Option Name) (entry : Entry) (rest : List Entry) → m.queue ≡ entry ∷ rest → (more : List Entry) ×
-    ((with_name snapshot m o).queue ≡ entry ∷ more)
-    × ((e : Entry) → Contains more e → Contains rest e ⊎ ((name : Name) × (o ≡ Some name) × IsSome (node_of snapshot name) × (e ≡ entry_of name)))
-still_first snapshot m None entry rest q = (rest, q, λ e c. inl c)
-still_first snapshot m (Some name) entry rest q =
-    let t = queue_if (is_some (node_of snapshot name) && not (is_listed name m.marked)) m name entry rest q in (
-      t.0,
-      t.1,
-      λ e c. elim (t.2 e c) [
-        | inl d ↦ inl d
-        | inr d ↦ inr (
-          name,
-          refl,
-          (and_parts (is_some (node_of snapshot name)) (not (is_listed name m.marked)) d.0).0,
-          d.1,
-        )
-      ],
-    )
+-- the queue after a value was read: the same entries, and the name's if it is new
+read_queued : (s : State) (v : Option Value) (e : Entry) → Contains (mark_read s v).queue e → Contains s.queue e
+    ⊎ ((name : Name) × (ref_of v ≡ Some name) × IsSome (node_of s.snapshot name) × (e ≡ entry_of name))
+read_queued s None e c = inl c
+read_queued s (Some value.Nil) e c = inl c
+read_queued s (Some (value.Number n)) e c = inl c
+read_queued s (Some (value.Ref name)) e c = by_test (is_new s name) refl c
+  where
+    by_test : (b : Bool) → is_new s name ≡ b → Contains (cond b (with_mark s name) s).queue e → Contains s.queue e
+        ⊎ ((n : Name) × (Some name ≡ Some n) × IsSome (node_of s.snapshot n) × (e ≡ entry_of n))
+    by_test true new d = elim (joined_cases s.order s.queue (entry_of name) e d) [
+      | inl old ↦ inl old
+      | inr same ↦ inr (name, refl, (and_parts (is_some (node_of s.snapshot name)) (not (is_listed name s.marked)) new).0, sym same)
+    ]
+    by_test false old d = inl d
 
 module _ (o : Opening) (words : List ℕ) (views : List Seen) (h : Keeps o words views) where
   abbrev P : Place → Type 0
@@ -177,9 +163,9 @@ module _ (o : Opening) (words : List ℕ) (views : List Seen) (h : Keeps o words
       lies_above o.layout (place_of x) (size_of q.0) (omega arith) (h.stands.apart x q.1).lies
 
   not_there : (m : Marks) (name : Name) → node_of S0 name ≡ None → with_name S0 m (Some name) ≡ m
-  not_there m name e = ap (λ (y : Option Node). cond (is_some y && not (is_listed name m.marked)) (record {
+  not_there m name e = ap (λ (y : Option Node). cond (is_some y && not (is_listed name m.marked)) (record m {
     marked = m.marked ++ name ∷ [];
-    queue = m.queue ++ entry_of name ∷ [];
+    queue = joined m.order m.queue (entry_of name);
   }) m) e
 
   -- a pointer counts as the name that it represents, if that is a name of the snapshot
@@ -407,28 +393,28 @@ module _ (o : Opening) (words : List ℕ) (views : List Seen) (h : Keeps o words
         let r = by_position t entry.position refl in
         let x : Option Value = read_at (Some t.node) entry.position in
         let read_is : read_at (node_of S.world entry.name) entry.position ≡ x = ap (λ (y : Option Node). read_at y entry.position) t.there in
-        let f = still_first S0 (marks_of S) (ref_of x) entry can.rest queue_is in
-        let M : Marks = with_name S0 (marks_of S) (ref_of x) in
-        let T : State = mark_read S x in
-        let next : List Entry = record { name = entry.name; position = entry.position + 1 } ∷ [] in
-        let marked : marks_of T ≡ M = cc (mark_is S x, snapshot_is) in
-        let world : T.world ≡ S.world = (rest_read S x).world in
-        let T_queue : T.queue ≡ entry ∷ f.0 = cc (marked, f.1) in
+        let rest : State = record S { queue = can.rest } in
+        let M : Marks = with_name S0 (marks_of rest) (ref_of x) in
+        let T : State = mark_read rest x in
+        let marked : marks_of T ≡ M = cc (mark_is rest x, snapshot_is) in
+        let world : T.world ≡ S.world = (rest_read rest x).world in
         let T_node : node_of T.world entry.name ≡ Some t.node = cc (world, t.there) in
-        let scans : after_scan S S.queue ≡ advanced T (entry ∷ f.0) = cc (queue_is, read_is, T_queue) in
+        let scans : after_scan S S.queue ≡ advanced T entry = cc (queue_is, read_is) in
         let moved : moved_on (node_of T.world entry.name) entry ≡ entry_past (node_of S0 entry.name) entry w =
         cc (T_node, last_same entry.position w t.queued.node t.node t.later r.result, t.queued.there) in
+        let rest_is : rest_of (marks_of S) ≡ marks_of rest =
+        ap (λ (l : List Entry). let n : Marks = record (marks_of S) { queue = drop 1 l } in n) queue_is in
         let marks : marks_of (after_scan S S.queue) ≡ after_word o (marks_of S) (record { entry = entry; word = w }) =
-        ap (λ (s : State). marks_of s) scans ∙ (λ i. record { marked = (marked i).marked; queue = moved i ++ f.0 })
-        ∙ sym (ap (λ (m : Marks). let n : Marks = record { marked = m.marked; queue = first_past S0 m.queue w } in n) (r.name (marks_of S)) ∙
-        ap (λ (l : List Entry). let n : Marks = record { marked = M.marked; queue = first_past S0 l w } in n) f.1) in
-        let after_queue : (after_scan S S.queue).queue ≡ moved_on (Some t.node) entry ++ f.0 = cc (scans, T_node) in
+        ap (λ (s : State). marks_of s) scans ∙ (λ i. record (marked i) { queue = moved i ++ (marked i).queue })
+        ∙ sym (ap (λ (m : Marks). let n : Marks = record m { queue = entry_past (node_of S0 entry.name) entry w ++ m.queue } in n)
+        (ap (λ (m : Marks). with_name S0 m (name_read o.places entry.position w)) rest_is ∙ r.name (marks_of rest))) in
+        let after_queue : (after_scan S S.queue).queue ≡ moved_on (Some t.node) entry ++ T.queue = cc (scans, T_node) in
         let each : (e : Entry) → Contains (after_scan S S.queue).queue e → IsQueued o e =
-        λ e c. elim (Contains-append_cases (moved_on (Some t.node) entry) f.0 e (rw after_queue at c)) [
+        λ e c. elim (Contains-append_cases (moved_on (Some t.node) entry) T.queue e (rw after_queue at c)) [
           | inl d ↦ next_queued t e d
-          | inr d ↦ elim (f.2 e d) [
+          | inr d ↦ elim (read_queued rest x e d) [
             | inl old ↦ h.queued e (rw queue_is (contains_tail entry can.rest e old))
-            | inr new ↦ subst (IsQueued o) (sym new.3) (name_queued t entry.position r new.0 new.1 new.2)
+            | inr new ↦ subst (IsQueued o) (sym new.3) (name_queued t entry.position r new.0 new.1 (rw snapshot_is at new.2))
           ]
         ] in
         rw (ap (λ (l : List Entry). first_of l) can.first) (scan_law o words views h id v here entry can.rest w x can.collects queue_is read_is r.means r.unset marks each)

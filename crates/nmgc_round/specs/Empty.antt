@@ -3,7 +3,7 @@ use Rattle.std.specs.Prelude.{◌≡◌, ℕ, ◌+◌, ◌<◌, false, List, [],
 use Rattle.nmgc_limits.specs.declared.mutators.TheConstants.{REGISTERS, SHARED_SLOTS}
 use Rattle.nmgc_world_spec.specs.{declared.value.Value.TheVariants.Nil, declared.node.Node.Node, declared.node.Node.TheVariants.Arr, World.new_world, World.shared_name}
 use Rattle.nmgc_object.specs.{Words.header_word, Words.name_word, Words.word_total, declared.layout.Layout.Layout, declared.layout.TheConstants.SHARED_PLACE, declared.size.TheConstants.HEADER_WORDS, declared.words.TheConstants.NIL_WORD}
-use Rattle.nmgc_snapshot_laws.specs.State.{unmarked}
+use Rattle.nmgc_snapshot_laws.specs.State.{newest_first, unmarked}
 use Rattle.nmgc_heap_spec.specs.Objects.{header_of, HasZeros, shared_place}
 use Rattle.nmgc_round.specs.View.{Hand, Opening}
 
@@ -28,7 +28,7 @@ abbrev pub first_opening : Layout → Opening
 first_opening layout = record {
   layout = layout;
   marking = false;
-  core = unmarked (new_world layout.mutators);
+  core = unmarked newest_first (new_world layout.mutators);
   places = shared_place ∷ [];
   hands = replicate layout.mutators new_hand;
 }

@@ -1,7 +1,7 @@
 -- When a round may start: the words represent the world, and so does the state outside them.
 use Rattle.std.specs.Prelude.{◌≡◌, ℕ, ◌<◌, false, List, [], length, Contains, Some}
 use Rattle.nmgc_world_spec.specs.{declared.node.Node.Node, Known.IsWorld, World.state_of, World.node_of, World.serial_of}
-use Rattle.nmgc_snapshot_laws.specs.{declared.event.Entry.Entry, State.names_of, State.unmarked}
+use Rattle.nmgc_snapshot_laws.specs.{declared.event.Entry.Entry, State.names_of, State.newest_first, State.unmarked}
 use Rattle.nmgc_heap_spec.specs.{Objects.ListMeans, Represents.Represents, Represents.NoNode}
 use Rattle.nmgc_round.specs.{View.Hand, View.Opening, View.hand_of, Objects.Object, Objects.IsLater, Objects.IsSnapshot, Objects.earlier, Own.old_stacks, Rule.IsOpening, Rule.IsQueued}
 
@@ -17,7 +17,7 @@ pub record HandStands (o : Opening) (m : ℕ) (h : Hand) : Type 0 where
 pub record CanOpen (o : Opening) (words : List ℕ) : Type 0 where
   pub is : IsOpening o
   pub world : IsWorld o.core.world
-  pub unmarked_is : o.marking ≡ false → o.core ≡ unmarked o.core.world
+  pub unmarked_is : o.marking ≡ false → o.core ≡ unmarked newest_first o.core.world
   pub represents : Represents o.layout (earlier o) NoNode o.places o.core.world words
   pub count : length o.hands ≡ o.layout.mutators
   pub hands : (m : ℕ) → m < o.layout.mutators → HandStands o m (hand_of o.hands m)

@@ -6,7 +6,7 @@ use Rattle.std.specs.Prelude.{ℕ, suc, ◌+◌, ◌*◌, ◌-◌, ◌/◌, ◌=
 use Rattle.nmgc_world_spec.specs.{declared.command.Operand.Operand, declared.command.Operand.TheVariants.Register, declared.command.Operand.TheVariants.Shared, declared.command.Command.Command, declared.command.Reply.Reply, declared.command.Reply.TheVariants.Fine, declared.value.Name.Name, World.words_made, World.new_world}
 use Rattle.nmgc_world_spec.specs.declared.command.Command.TheVariants.{Num, Nil, Mov, Con, Var, Arr, Rec, Thunk, Weak, Stack, Get, Tag, Set, Cas, Update, Force, Push, Pop, Deref, Finalise, NextFin, Show, Same, Yield, Collect, Full}
 use Rattle.nmgc_object.specs.{Words.name_word, declared.layout.Layout.Layout, declared.layout.TheConstants.SHARED_PLACE, declared.words.TheConstants.NIL_WORD, declared.words.TheConstants.ZERO_WORD}
-use Rattle.nmgc_snapshot_laws.specs.{declared.event.Entry.Entry, State.State, State.unmarked}
+use Rattle.nmgc_snapshot_laws.specs.{declared.event.Entry.Entry, State.State, State.newest_first, State.unmarked}
 use Rattle.nmgc_heap_spec.specs.Objects.{Place}
 
 -- an answer as a seat knows it: a reply that gives no value, or the word of the value given
@@ -243,7 +243,7 @@ abbrev pub no_opening : Opening
 no_opening = record {
   layout = record { segments = 0; words = 0; nursery = 0; mutators = 0 };
   marking = false;
-  core = unmarked (new_world 0);
+  core = unmarked newest_first (new_world 0);
   places = [];
   hands = [];
 }

@@ -42,17 +42,14 @@ after_push s m (name ∷ rest) = record s {
   pushed = slice_set s.pushed m (names_of s.pushed m ++ pushed_of s name);
 }
 
--- the state after the first entry of the queue moved on to the next position, or left the queue
-abbrev pub advanced : State → List Entry → State
-advanced s [] = s
-advanced s (entry ∷ rest) = record s { queue = moved_on (node_of s.world entry.name) entry ++ rest }
+-- the state after an entry joined the queue at the front, at its next position, if a position is left
+abbrev pub advanced : State → Entry → State
+advanced s entry = record s { queue = moved_on (node_of s.world entry.name) entry ++ s.queue }
 
--- the state after a scan: the name in the field that the first entry reads is marked, and the entry moves on
+-- the state after a scan: the queue's first entry leaves it, the name that it reads is marked, and the entry is first again
 abbrev pub after_scan : State → List Entry → State
 after_scan s [] = s
-after_scan s (entry ∷ rest) =
-    let marked = mark_read s (read_at (node_of s.world entry.name) entry.position) in
-    advanced marked marked.queue
+after_scan s (entry ∷ rest) = advanced (mark_read (record s { queue = rest }) (read_at (node_of s.world entry.name) entry.position)) entry
 
 -- the state after a take: the first name that the mutator pushed leaves its list, and is marked
 abbrev pub after_take : State → ℕ → List Name → State

@@ -1,7 +1,7 @@
 -- Runs of the machine, and the snapshot theorem about their marks.
 use Rattle.std.specs.Prelude.{◌≡◌, ◌↔◌, List, [], ◌∷◌, ◌++◌, Contains, Bool, true, false, if◌then◌else◌}
 use Rattle.nmgc_world_spec.specs.{declared.value.Name.Name, World.World, Known.IsWorld, Reach.Row, Reach.replayed, Reach.IsLegal, Reach.opened, Reach.finalised, Reach.IsLive, Reach.IsDead, Reach.IsKept, Reach.Lists, Reach.closed}
-use Rattle.nmgc_snapshot_laws.specs.{declared.event.Event.Event, State.State, State.opening, Machine.IsPossible, Machine.Passes, Facts.Facts, Closing.IsMarkedFirst, Closing.IsClosing}
+use Rattle.nmgc_snapshot_laws.specs.{declared.event.Event.Event, State.State, State.Order, State.oldest_first, State.opening, State.opening_in, Machine.IsPossible, Machine.Passes, Facts.Facts, Closing.IsMarkedFirst, Closing.IsClosing}
 use Rattle.nmgc_snapshot_laws.specs.declared.event.Event.TheVariants as event
 
 -- the row of an event that is a command
@@ -32,12 +32,12 @@ pub record IsMarking (w : World) (rows : List Row) (s : State) : Type 0 where
 
 -- the state after an exact closing. The closing could happen in the state that the events before it reached. Exactly the live
 -- names are marked first, exactly the dead weak pointers die, and exactly the kept names are marked in the end.
-pub record IsExact (w : World) (events : List Event) (rows : List Row) (s : State) : Type 0 where
+pub record IsExact (order : Order) (w : World) (events : List Event) (rows : List Row) (s : State) : Type 0 where
   pub earlier : List Event
   pub later : List Event
   pub events_are : events ≡ earlier ++ event.Close ∷ later
   pub before : State
-  pub runs : Runs (opening w) earlier rows before
+  pub runs : Runs (opening_in order w) earlier rows before
   pub possible : IsPossible before event.Close
   pub marking : IsMarking w rows before
   pub closing : IsClosing before s
@@ -49,22 +49,23 @@ pub record IsExact (w : World) (events : List Event) (rows : List Row) (s : Stat
 -- the snapshot theorem, for the state after these events and rows. Before the closing all marked names are live in the
 -- snapshot. At the closing, exactly the live names are marked once the weak pointers with marked keys have kept their parts.
 -- Then exactly the kept names are marked, and exactly the dead weak pointers die.
-pub record IsSnapshotMarking (w : World) (events : List Event) (rows : List Row) (s : State) : Type 0 where
+pub record IsSnapshotMarking (order : Order) (w : World) (events : List Event) (rows : List Row) (s : State) : Type 0 where
   pub before : s.is_closed ≡ false → IsMarking w rows s
-  pub after : s.is_closed ≡ true → IsExact w events rows s
+  pub after : s.is_closed ≡ true → IsExact order w events rows s
 
--- the snapshot theorem, for every run from a world (`IsWorld`), with events from any source
+-- the snapshot theorem, for every run from a world (`IsWorld`), in each order, with events from any source
 abbrev pub SnapshotTheorem : Type 0
-SnapshotTheorem = (w : World) → IsWorld w → (events : List Event) (rows : List Row) (s : State) → Runs (opening w) events rows s →
-    IsSnapshotMarking w events rows s
+SnapshotTheorem = (order : Order) (w : World) → IsWorld w → (events : List Event) (rows : List Row) (s : State) →
+    Runs (opening_in order w) events rows s → IsSnapshotMarking order w events rows s
 
 -- the claim that each state of a run from a world has the facts until the closing
 abbrev pub FactsAreKept : Type 0
-FactsAreKept = (w : World) → IsWorld w → (events : List Event) (rows : List Row) (s : State) → Runs (opening w) events rows s → s.is_closed ≡ false → Facts s
+FactsAreKept = (order : Order) (w : World) → IsWorld w → (events : List Event) (rows : List Row) (s : State) → Runs (opening_in order w) events rows s →
+    s.is_closed ≡ false → Facts s
 
 -- the claim that the facts hold at the opening of every world (`IsWorld`)
 abbrev pub OpeningHasFacts : Type 0
-OpeningHasFacts = (w : World) → IsWorld w → Facts (opening w)
+OpeningHasFacts = (order : Order) (w : World) → IsWorld w → Facts (opening_in order w)
 
 -- the claim that every event that happens and doesn't close keeps the facts, and leaves a world (`IsWorld`)
 abbrev pub EventKeepsFacts : Type 0
@@ -80,9 +81,9 @@ pub record IsExactClosing (s next : State) (closing : IsClosing s next) : Type 0
 abbrev pub ClosingIsExact : Type 0
 ClosingIsExact = (s next : State) → Facts s → IsPossible s event.Close → (closing : IsClosing s next) → IsExactClosing s next closing
 
--- a run from a world: the machine reaches this state by the events in order, and the snapshot theorem holds there
+-- a run from a world, oldest first: the machine reaches this state by the events in order, and the snapshot theorem holds there
 pub record IsRun (w : World) (events : List Event) (s : State) : Type 0 where
   pub rows : List Row
   pub runs : Runs (opening w) events rows s
-  pub theorem : IsSnapshotMarking w events rows s
+  pub theorem : IsSnapshotMarking oldest_first w events rows s
   pub closed : IsWorld s.world

@@ -5,14 +5,20 @@ use Rattle.nmgc_world_spec.specs.{declared.value.Name.Name, declared.value.Value
 use Rattle.nmgc_world_spec.specs.declared.value.Value.TheVariants as value
 use Rattle.nmgc_snapshot_laws.specs.declared.event.Entry.{Entry}
 
+-- the order in which queued names are scanned: oldest first, or newest first, as from a stack
+pub data Order : Type 0 where
+  oldest_first : Order
+  newest_first : Order
+
 -- a state: the world as it is, the snapshot, the marked names in the order of marking, and the queue of names with the
--- position that is read next. Then, for each mutator, the names that it owes and the names that it pushed. Then the names
--- opened and finalised since the snapshot, and whether marking has ended.
+-- position that is read next. Then the order of the queue and, for each mutator, the names that it owes and the names that it
+-- pushed. Then the names opened and finalised since the snapshot, and whether marking has ended.
 pub record State : Type 0 where
   pub world : World
   pub snapshot : World
   pub marked : List Name
   pub queue : List Entry
+  pub order : Order
   pub owed : List (List Name)
   pub pushed : List (List Name)
   pub opened : List Name
@@ -36,9 +42,14 @@ is_new s name = is_some (node_of s.snapshot name) && not (is_listed name s.marke
 abbrev pub entry_of : Name → Entry
 entry_of name = record { name = name; position = 0 }
 
--- the state after the name was marked and queued at the back
+-- the queue after an entry joined it: at the back, or at the front
+abbrev pub joined : Order → List Entry → Entry → List Entry
+joined oldest_first queue entry = queue ++ entry ∷ []
+joined newest_first queue entry = entry ∷ queue
+
+-- the state after the name was marked and queued
 abbrev pub with_mark : State → Name → State
-with_mark s name = record s { marked = s.marked ++ name ∷ []; queue = s.queue ++ entry_of name ∷ [] }
+with_mark s name = record s { marked = s.marked ++ name ∷ []; queue = joined s.order s.queue (entry_of name) }
 
 -- the state after marking a name: an unmarked name of the snapshot is marked and queued, and any other name changes nothing
 abbrev pub mark_name : State → Name → State
@@ -66,12 +77,13 @@ root_values w = flat_map (λ (state : MutatorState). state.registers) w.mutators
     (flat_map (λ (state : MutatorState). state.queue) w.mutators ++ strong_fields w.shared)
 
 -- the state of a world in which only g is marked
-abbrev pub unmarked : World → State
-unmarked w = record {
+abbrev pub unmarked : Order → World → State
+unmarked order w = record {
   world = w;
   snapshot = w;
   marked = shared_name ∷ [];
   queue = [];
+  order = order;
   owed = replicate (length w.mutators) [];
   pushed = replicate (length w.mutators) [];
   opened = [];
@@ -81,5 +93,9 @@ unmarked w = record {
 
 -- the state when marking begins: the world is its own snapshot. g and the targets of registers, finaliser queues and slots of
 -- g are marked. All of these except g are queued, each at its first mention.
+abbrev pub opening_in : Order → World → State
+opening_in order w = mark_values (unmarked order w) (root_values w)
+
+-- the same, with the oldest entry scanned first
 abbrev pub opening : World → State
-opening w = mark_values (unmarked w) (root_values w)
+opening w = opening_in oldest_first w

@@ -3,9 +3,10 @@
 //! the facts. The lemmas are in `specs/laws/`.
 ghost use Rattle.nmgc_snapshot_laws.specs.Run.{SnapshotTheorem, FactsAreKept, OpeningHasFacts, EventKeepsFacts, ClosingIsExact};
 
-/// Proves the snapshot theorem: the marks of every run from a world are exact. Before the closing, only names that are live
-/// in the snapshot are marked, and the world is the replay of the commands. The closing completes the marks to exactly the
-/// live names. Then exactly the dead weak pointers die, and exactly the kept names are marked. Opened names count as roots.
+/// Proves the snapshot theorem: the marks of every run from a world are exact, in each order of the queue. Before the closing,
+/// only names that are live in the snapshot are marked, and the world is the replay of the commands. The closing completes
+/// the marks to exactly the live names. Then exactly the dead weak pointers die, and exactly the kept names are marked.
+/// Opened names count as roots.
 pub fn marking_from_a_snapshot_is_exact()
     ensures { SnapshotTheorem }
 {}

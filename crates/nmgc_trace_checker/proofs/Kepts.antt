@@ -1,5 +1,5 @@
 -- A closed trace keeps the names that a cycle has to keep: its lines after `mark` are a run of the marking machine.
-use Rattle.nmgc_trace_checker.proofs.Vocabulary.{◌≡◌, ◌↔◌, ◌⊎◌, ◌++◌, ℕ, zero, suc, refl, sym, ap, subst, inl, inr, List, [], ◌∷◌, true, Contains, Name, Reply, World, IsWorld, new_world, Row, opened, finalised, IsKept, Lists, new_is_world, step_keeps_world, Event, State, opening, Runs, IsExact, snapshot_theorem, Line, Progress, Verdict, Can, IsAnswered, Scans, IsVerdictAfter, refusal_of, rows_in, IsKeptListed, ListsKept, runs_join}
+use Rattle.nmgc_trace_checker.proofs.Vocabulary.{◌≡◌, ◌↔◌, ◌⊎◌, ◌++◌, ℕ, zero, suc, refl, sym, ap, subst, inl, inr, List, [], ◌∷◌, true, Contains, Name, Reply, World, IsWorld, new_world, Row, opened, finalised, IsKept, Lists, new_is_world, step_keeps_world, Event, State, oldest_first, opening, Runs, IsExact, snapshot_theorem, Line, Progress, Verdict, Can, IsAnswered, Scans, IsVerdictAfter, refusal_of, rows_in, IsKeptListed, ListsKept, runs_join}
 use Rattle.nmgc_trace_checker.specs.Trace.{Comes}
 use Rattle.nmgc_snapshot_laws.specs.declared.event.Event.TheVariants as event
 use Rattle.nmgc_trace_checker.specs.declared.line.Line.TheVariants as line
@@ -124,8 +124,8 @@ kept_marking lines s names c over listed = elim (begun lines (progress.Marking s
       let rows : List Row = rows_in b.later in
       let e : f.machine ≡ s = sym (ap (machine_in s) f.last_is) in
       let R : State → Type 0 = λ t. Runs (opening b.snapshot) f.events (rows_in b.later) t in
-      let exact : IsExact b.snapshot f.events (rows_in b.later) s =
-      (snapshot_theorem b.snapshot b.world f.events (rows_in b.later) s (subst R e f.runs)).after over in
+      let exact : IsExact oldest_first b.snapshot f.events (rows_in b.later) s =
+      (snapshot_theorem oldest_first b.snapshot b.world f.events (rows_in b.later) s (subst R e f.runs)).after over in
       let K : List Name → Type 0 = λ o. (name : Name) → Contains s.marked name ↔ IsKept b.snapshot o exact.before.finalised name in
       let L : List Name → Type 0 = λ d. (name : Name) → Contains s.marked name ↔ IsKept b.snapshot (opened b.snapshot (rows_in b.later)) d name in
       let kept : (name : Name) → Contains s.marked name ↔

@@ -10,7 +10,7 @@ pub use Rattle.nmgc_lists.specs.{declared.memory.NoMemory.NoMemory, laws.Items.c
 pub use Rattle.nmgc_object.specs.Words.{IsName}
 pub use Rattle.nmgc_io.specs.Text.{is_blank_or_comment, lines_of, onto_first, tokens_of, spaced, AppendsFront, Rose}
 pub use Rattle.nmgc_script.specs.{Spelling.FitsConfig, Spelling.FitsScript, Spelling.Spells, Spelling.command_words, Spelling.heap_words, Spelling.operand_word, Spelling.register_word, Spelling.section_lines, Spelling.kept_lines, Parts.program_lines, Parts.section_words, Parts.version_words, declared.fault.Cause.Cause, declared.fault.ScriptFault.ScriptFault, declared.script.Config.Config, declared.script.Script.Script}
-pub use Rattle.nmgc_snapshot_laws.specs.{Machine.IsPossible, Machine.Passes, Machine.after_take, Run.IsExact, Run.Runs, State.State, State.is_new, State.names_of, State.opening, State.with_mark, declared.event.Event.Event, laws.Common.runs_join, laws.Runs.snapshot_theorem}
+pub use Rattle.nmgc_snapshot_laws.specs.{Machine.IsPossible, Machine.Passes, Machine.after_take, Run.IsExact, Run.Runs, State.State, State.is_new, State.names_of, State.oldest_first, State.opening, State.with_mark, declared.event.Event.Event, laws.Common.runs_join, laws.Runs.snapshot_theorem}
 pub use Rattle.nmgc_barrier_checker.specs.{Rows.copied, Rows.filled, Watching.AreDone, Watching.CanAct, declared.cycle_result.CycleResult.CycleResult, declared.rows.Copying.Copying, declared.rows.Filling.Filling, declared.watch.Watch.Watch}
 pub use Rattle.nmgc_world_laws.specs.laws.{Deaths.closed_world, NewWorlds.new_is_world, WorldSteps.step_keeps_world}
 pub use Rattle.nmgc_world_spec.specs.{World.Fits, World.HasRegistersBelow, World.shared_name, World.step, World.World, World.new_world, Known.IsOperand, Known.IsRegister, Reach.Row, Reach.finalised, Reach.opened, Reach.IsBefore, Reach.IsInOrder, Reach.IsKept, Reach.Lists, Known.IsWorld, declared.command.Command.Command, declared.command.Command.TheVariants.Arr, declared.command.Command.TheVariants.Cas, declared.command.Command.TheVariants.Collect, declared.command.Command.TheVariants.Con, declared.command.Command.TheVariants.Deref, declared.command.Command.TheVariants.Finalise, declared.command.Command.TheVariants.Force, declared.command.Command.TheVariants.Full, declared.command.Command.TheVariants.Get, declared.command.Command.TheVariants.Mov, declared.command.Command.TheVariants.NextFin, declared.command.Command.TheVariants.Nil, declared.command.Command.TheVariants.Num, declared.command.Command.TheVariants.Pop, declared.command.Command.TheVariants.Push, declared.command.Command.TheVariants.Same, declared.command.Command.TheVariants.Set, declared.command.Command.TheVariants.Show, declared.command.Command.TheVariants.Stack, declared.command.Command.TheVariants.Tag, declared.command.Command.TheVariants.Thunk, declared.command.Command.TheVariants.Update, declared.command.Command.TheVariants.Var, declared.command.Command.TheVariants.Weak, declared.command.Command.TheVariants.Yield, declared.command.Operand.Operand, declared.command.Operand.TheVariants.Register, declared.command.Operand.TheVariants.Shared, declared.command.Reply.Reply, declared.value.Name.Name, declared.value.Value.Value, laws.Orders.before_trans, laws.Orders.in_order_first, laws.Orders.in_order_rest, laws.Orders.not_before_itself}

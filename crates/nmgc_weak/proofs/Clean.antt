@@ -1,5 +1,5 @@
 -- The marks of scans at a stop: all marked names have a fact that strong fields of the world hand on.
-use Rattle.nmgc_weak.proofs.Vocabulary.{◌≡◌, ◌≤◌, ◌+◌, ℕ, zero, suc, Bool, true, false, cond, eqb, leb, List, [], ◌∷◌, refl, sym, ap, subst, ◌∙◌, arith, Option, Some, None, inl, inr, ◌⊎◌, Contains, IsSome, ◌&&◌, or_parts, and_cases, cases_eq, Contains-append_cases, Contains-push_cases, Name, Value, Node, World, node_of, RefersTo, contains_head, contains_tail, nothing_in, one_is, after_scan, advanced, read_at, moved_on, fields_of, is_last, State, entry_of, mark_name, mark_read, mark_cases, new_there, read_cases, has_result, field_at_place, Happening, did, scanned, replay, AreScans, eq-eqb}
+use Rattle.nmgc_weak.proofs.Vocabulary.{◌≡◌, ◌≤◌, ◌+◌, ℕ, zero, suc, Bool, true, false, cond, eqb, leb, List, [], ◌∷◌, refl, sym, ap, subst, ◌∙◌, arith, Option, Some, None, inl, inr, ◌⊎◌, Contains, IsSome, ◌&&◌, or_parts, and_cases, cases_eq, Contains-append_cases, Contains-push_cases, Name, Value, Node, World, node_of, RefersTo, contains_head, contains_tail, nothing_in, one_is, after_scan, advanced, read_at, moved_on, fields_of, is_last, State, entry_of, mark_name, mark_read, mark_cases, joined_cases, new_there, read_cases, has_result, field_at_place, Happening, did, scanned, replay, AreScans, eq-eqb}
 use Rattle.nmgc_snapshot_laws.specs.declared.event.Entry.{Entry}
 use Rattle.nmgc_world_spec.specs.declared.value.Value.TheVariants as value
 
@@ -25,7 +25,7 @@ module _ (P : Name → Type 0) (w snapshot : World) (hands_on : (name target : N
         world = h.world;
         snapshot_is = h.snapshot_is;
         marked = λ n c. elim (Contains-push_cases s.marked name n c) [ inl old ↦ h.marked n old | inr same ↦ subst P same (may there) ];
-        queued = λ entry c. elim (Contains-push_cases s.queue (entry_of name) entry c) [
+        queued = λ entry c. elim (joined_cases s.order s.queue (entry_of name) entry c) [
           | inl old ↦ h.queued entry old
           | inr same ↦ subst IsClean same (record { name = may there; passed = inl (omega arith) })
         ];
@@ -78,16 +78,14 @@ module _ (P : Name → Type 0) (w snapshot : World) (hands_on : (name target : N
       by_test true last d = absurd (nothing_in e d)
       by_test false last d = subst IsClean (one_is (record { name = entry.name; position = entry.position + 1 }) e d) (further_on last)
 
-  advanced_clean : (s : State) (queue : List Entry) → s.queue ≡ queue → AreClean s → AreClean (advanced s queue)
-  advanced_clean s [] e h = h
-  advanced_clean s (entry ∷ rest) e h = record {
+  advanced_clean : (s : State) (entry : Entry) → IsClean entry → AreClean s → AreClean (advanced s entry)
+  advanced_clean s entry clean h = record {
     world = h.world;
     snapshot_is = h.snapshot_is;
     marked = h.marked;
-    queued = λ other c. elim (Contains-append_cases (moved_on (node_of s.world entry.name) entry) rest other c) [
-      | inl mine ↦ moved entry other (node_of s.world entry.name) (ap (λ (x : World).
-          node_of x entry.name) (sym h.world)) (h.queued entry (rw e (contains_head entry rest))) mine
-      | inr old ↦ h.queued other (subst (λ (q : List Entry). Contains q other) (sym e) (contains_tail entry rest other old))
+    queued = λ other c. elim (Contains-append_cases (moved_on (node_of s.world entry.name) entry) s.queue other c) [
+      | inl mine ↦ moved entry other (node_of s.world entry.name) (ap (λ (x : World). node_of x entry.name) (sym h.world)) clean mine
+      | inr old ↦ h.queued other old
     ];
   }
 
@@ -95,9 +93,15 @@ module _ (P : Name → Type 0) (w snapshot : World) (hands_on : (name target : N
   scan_clean s [] e h = h
   scan_clean s (entry ∷ rest) e h =
       let read : Option Value = read_at (node_of s.world entry.name) entry.position in
-      let t : State = mark_read s read in
+      let from : State = record s { queue = rest } in
       let c : IsClean entry = h.queued entry (subst (λ (q : List Entry). Contains q entry) (sym e) (contains_head entry rest)) in
-      advanced_clean t t.queue refl (read_clean s read h (λ target is there.
+      let left : AreClean from = record {
+        world = h.world;
+        snapshot_is = h.snapshot_is;
+        marked = h.marked;
+        queued = λ other d. h.queued other (subst (λ (q : List Entry). Contains q other) (sym e) (contains_tail entry rest other d));
+      } in
+      advanced_clean (mark_read from read) entry c (read_clean from read left (λ target is there.
       reads entry (node_of s.world entry.name) entry.position target c (ap (λ (x : World). node_of x entry.name) (sym h.world)) refl is there))
 
   pub scans_clean : (s : State) (es : List Happening) → AreScans es → AreClean s → AreClean (replay s es)

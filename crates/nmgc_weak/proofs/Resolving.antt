@@ -121,6 +121,7 @@ module _ (o : Opening) (words : List ℕ) (s t u : Segments) (k l n : MarkerSeen
         snapshot = record { layout = x.snapshot.layout; apart = x.snapshot.apart; sound = x.snapshot.sound; complete = x.snapshot.complete };
         shared = x.shared;
         marks = x.marks;
+        order = x.order;
         queue = x.queue;
         count = x.count;
       }

@@ -1,5 +1,5 @@
 -- The finalisers of the dying are marked, with all reachable from them: then the machine has closed, except for the words.
-use Rattle.nmgc_weak.proofs.Vocabulary.{◌≡◌, ◌<◌, ◌+◌, ℕ, Bool, true, cond, List, [], ◌∷◌, ◌++◌, length, refl, sym, ap, subst, ◌∙◌, append_assoc, ◌≤◌, arith, Option, Some, None, inl, inr, Contains, IsSome, slice_get, slice_index, cases_lt, Contains-append_left, Contains-push_cases, Name, Value, Weak, Parts, node_of, IsAlive, IsKept, IsDead, Lists, RefersTo, closed, contains_head, contains_tail, contains_cases, get_is_some, contains_at, weak_maker, not_shared, InSegment, IsWaiting, Facts, State, entry_of, with_mark, mark_name, part_there, Segments, Place, Means, Marks, marks_of, name_meant, with_name, IsQueued, now, Opening, MarkerSeen, IsReady, HasFinished, IsTied, AreQueued, OldWeak, CanResolve, IsLost, CanRescue, HasRescued, place_at, places_of, names_of, finaliser_place, one_parts, of_place}
+use Rattle.nmgc_weak.proofs.Vocabulary.{◌≡◌, ◌<◌, ◌+◌, ℕ, Bool, true, cond, List, [], ◌∷◌, ◌++◌, length, refl, sym, ap, subst, ◌∙◌, append_assoc, ◌≤◌, arith, Option, Some, None, inl, inr, Contains, IsSome, slice_get, slice_index, cases_lt, Contains-append_left, Contains-push_cases, Name, Value, Weak, Parts, node_of, IsAlive, IsKept, IsDead, Lists, RefersTo, closed, contains_head, contains_tail, contains_cases, get_is_some, contains_at, weak_maker, not_shared, InSegment, IsWaiting, Facts, State, entry_of, with_mark, mark_name, joined_cases, part_there, Segments, Place, Means, Marks, marks_of, name_meant, with_name, IsQueued, now, Opening, MarkerSeen, IsReady, HasFinished, IsTied, AreQueued, OldWeak, CanResolve, IsLost, CanRescue, HasRescued, place_at, places_of, names_of, finaliser_place, one_parts, of_place}
 use Rattle.nmgc_lists.specs.laws.Items.{place_of}
 use Rattle.nmgc_snapshot_laws.specs.declared.event.Entry.{Entry}
 use Rattle.nmgc_world_spec.specs.declared.value.Value.TheVariants as value
@@ -108,7 +108,7 @@ module _ (o : Opening) (words : List ℕ) (s0 : Segments) (marker0 : MarkerSeen)
         tied = g;
         facts = subst Facts (ap (λ (b : Bool). cond b (with_mark core target) core) e) facts;
         once = push_once o.core.snapshot m target st.once e;
-        queued = λ entry c. elim (Contains-push_cases m.queue (entry_of target) entry c) [
+        queued = λ entry c. elim (joined_cases m.order m.queue (entry_of target) entry c) [
           | inl old ↦ st.queued entry old
           | inr same ↦ subst (IsQueued o) same may
         ];
@@ -244,7 +244,7 @@ module _ (o : Opening) (words : List ℕ) (s0 : Segments) (marker0 : MarkerSeen)
         closing = closing.0;
         dead = closing.1;
         once = done.stage.once;
-        tied = subst (λ (q : List Entry). IsTied o (record { marked = end.marked; queue = q }) t l) (sym empty) done.stage.tied;
+        tied = subst (λ (k : Marks). IsTied o k t l) (λ i. record { marked = end.marked; queue = sym empty i; order = sym h.can.ready.tied.order i }) done.stage.tied;
       }
     where
       queued_clean : (b : IsSaving s k (length dying)) → (entry : Entry) → Contains b.m.queue entry →

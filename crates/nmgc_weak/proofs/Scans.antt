@@ -39,15 +39,17 @@ read_marks : (s : State) (x : Option Value) → MarksMore s (mark_read s x)
 read_marks s None = same_marks s
 read_marks s (Some v) = value_marks s v
 
-advanced_marks : (s : State) (queue : List Entry) → MarksMore s (advanced s queue)
-advanced_marks s [] = same_marks s
-advanced_marks s (entry ∷ rest) = record { more = []; marked = sym (append-nil s.marked); rest = refl; once = λ o. o }
+queue_marks : (s : State) (queue : List Entry) → MarksMore s (record s { queue = queue })
+queue_marks s queue = record { more = []; marked = sym (append-nil s.marked); rest = refl; once = λ o. o }
 
 scan_marks : (s : State) (queue : List Entry) → MarksMore s (after_scan s queue)
 scan_marks s [] = same_marks s
 scan_marks s (entry ∷ rest) =
-    let t : State = mark_read s (read_at (node_of s.world entry.name) entry.position) in
-    then_marks s t (advanced t t.queue) (read_marks s (read_at (node_of s.world entry.name) entry.position)) (advanced_marks t t.queue)
+    let from : State = record s { queue = rest } in
+    let read : Option Value = read_at (node_of s.world entry.name) entry.position in
+    let t : State = mark_read from read in
+    then_marks s from (advanced t entry) (queue_marks s rest)
+    (then_marks from t (advanced t entry) (read_marks from read) (queue_marks t (advanced t entry).queue))
 
 pub scans_mark : (s : State) (es : List Happening) → AreScans es → MarksMore s (replay s es)
 scans_mark s [] h = same_marks s

@@ -1,11 +1,11 @@
 -- A state of the marking machine at a stop with more marks: the facts on the way from a state that could close to the next.
-use Rattle.nmgc_weak.proofs.Vocabulary.{◌≡◌, ℕ, Bool, true, false, cond, List, [], ◌∷◌, ◌++◌, refl, sym, ap, subst, ◌∙◌, append-nil, append_assoc, arith, Option, Some, None, inl, inr, Contains, IsSome, is_some, not, ◌&&◌, cond_both, and_parts, not-true, Contains-append_left, Contains-push, Contains-push_cases, Name, IsLive, World, IsWorld, node_of, Facts, State, is_listed, with_mark, entry_of, mark_facts, contains_listed, not_listed, Segments, Place, Marks, marks_of, with_name, Object, IsOld, IsOpening, IsQueued, now, CanOpen, HandStands, Opening, Hand, AreDistinct, MarkerSeen, distinct_push, IsReady, HasFinished, IsTied, CanResolve, GoesTo}
+use Rattle.nmgc_weak.proofs.Vocabulary.{◌≡◌, ℕ, Bool, true, false, cond, List, [], ◌∷◌, ◌++◌, refl, sym, ap, subst, ◌∙◌, append-nil, append_assoc, arith, Option, Some, None, inl, inr, Contains, IsSome, is_some, not, ◌&&◌, cond_both, and_parts, not-true, Contains-append_left, Contains-push, Name, IsLive, World, IsWorld, node_of, Facts, State, is_listed, newest_first, joined_queue, with_mark, entry_of, mark_facts, joined_cases, contains_listed, not_listed, Segments, Place, Marks, marks_of, with_name, Object, IsOld, IsOpening, IsQueued, now, CanOpen, HandStands, Opening, Hand, AreDistinct, MarkerSeen, distinct_push, IsReady, HasFinished, IsTied, CanResolve, GoesTo}
 use Rattle.nmgc_snapshot_laws.specs.declared.event.Entry.{Entry}
 use Rattle.nmgc_weak.proofs.Scans.{MarksMore, scans_mark, scans_facts}
 
 -- the opening with other opened names and other marks
 abbrev pub remade : Opening → List Name → Marks → Opening
-remade o opened m = record o { core = record o.core { marked = m.marked; queue = m.queue; opened = opened } }
+remade o opened m = record o { core = record o.core { marked = m.marked; queue = m.queue; order = m.order; opened = opened } }
 
 -- with other marks alone
 abbrev pub with_marks : Opening → Marks → Opening
@@ -64,6 +64,7 @@ retied o opened k m s marker h = record {
   snapshot = record { layout = h.snapshot.layout; apart = h.snapshot.apart; sound = h.snapshot.sound; complete = h.snapshot.complete };
   shared = h.shared;
   marks = h.marks;
+  order = h.order;
   queue = h.queue;
   count = h.count;
 }
@@ -74,6 +75,7 @@ tied_back o opened k m s marker h = record {
   snapshot = record { layout = h.snapshot.layout; apart = h.snapshot.apart; sound = h.snapshot.sound; complete = h.snapshot.complete };
   shared = h.shared;
   marks = h.marks;
+  order = h.order;
   queue = h.queue;
   count = h.count;
 }
@@ -94,7 +96,7 @@ CanMark o opened (Some name) = (IsSome (node_of o.core.snapshot name) → IsLive
     (IsSome (node_of o.core.snapshot name) → IsQueued o (entry_of name))
 
 abbrev pub more_marks : Marks → Name → Marks
-more_marks m name = record { marked = m.marked ++ name ∷ []; queue = m.queue ++ entry_of name ∷ [] }
+more_marks m name = record m { marked = m.marked ++ name ∷ []; queue = joined_queue m.order m.queue (entry_of name) }
 
 pub name_cases : (R : Marks → Type 0) (snapshot : World) (m : Marks) (name : Name) →
     ((is_some (node_of snapshot name) && not (is_listed name m.marked)) ≡ true → R (more_marks m name)) →
@@ -120,7 +122,7 @@ stage_name o opened m s t marker later name h can tied =
           let core = (remade o opened m).core in
           subst Facts (ap (λ (b : Bool). cond b (with_mark core name) core) e) (mark_facts core name h.facts can.0);
       once = push_once o.core.snapshot m name h.once e;
-      queued = λ entry c. elim (Contains-push_cases m.queue (entry_of name) entry c) [
+      queued = λ entry c. elim (joined_cases m.order m.queue (entry_of name) entry c) [
         | inl old ↦ h.queued entry old
         | inr same ↦ subst (IsQueued o) same (can.1 (and_parts (is_some (node_of o.core.snapshot name)) (not (is_listed name m.marked)) e).0)
       ];
@@ -175,7 +177,7 @@ stage_begins o words s marker weaks h = record {
 
 -- the marks once all was scanned
 abbrev pub done_marks : List Name → Marks
-done_marks marked = record { marked = marked; queue = [] }
+done_marks marked = record { marked = marked; queue = []; order = newest_first }
 
 -- all that was queued is scanned
 pub record IsDone (o : Opening) (opened : List Name) (m : Marks) (s : Segments) (marker : MarkerSeen) (marked : List Name) : Type 0 where
@@ -188,13 +190,13 @@ stage_done o opened m s t marker later world h f =
     let end : State = now (remade o opened m) f.events in
     let mm : MarksMore (remade o opened m).core end = scans_mark (remade o opened m).core f.events f.scans in
     let facts : Facts end = scans_facts (remade o opened m).core f.events f.scans h.facts world in
-    let marks : marks_of end ≡ done_marks end.marked = ap (λ (x : State). let k : Marks = record { marked = end.marked; queue = x.queue } in k) f.rest in
+    let marks : marks_of end ≡ done_marks end.marked = λ i. record { marked = end.marked; queue = (f.rest i).queue; order = f.tied.order i } in
     record {
       stage = record {
         more = h.more ++ mm.more;
         marked = mm.marked ∙ ap (λ (l : List Name). l ++ mm.more) h.marked ∙ append_assoc o.core.marked h.more mm.more;
         tied = subst (λ (k : Marks). IsTied o k t later) marks (tied_back o opened m (marks_of end) t later f.tied);
-        facts = subst Facts f.rest facts;
+        facts = subst Facts (f.rest ∙ (λ i. record (remade o opened m).core { marked = end.marked; queue = []; order = h.tied.order i })) facts;
         once = mm.once h.once;
         queued = λ entry c. absurd (omega (arith, c.1));
       };
@@ -210,7 +212,7 @@ done_goes o words s t marker later weaks marked can h =
       later = record {
         more = h.more;
         marked = h.marked;
-        rest = ap (λ (q : List Entry). let u : Opening = record o { core = record o.core { marked = marked; queue = q } } in u) (sym c.1);
+        rest = λ i. record o { core = record o.core { marked = marked; queue = sym c.1 i; order = sym can.ready.tied.order i } };
       };
       can = record {
         ready = stage_ready o o.core.opened (done_marks marked) words t later can.marking can.ready.opens h;

@@ -7,7 +7,7 @@ pub use Rattle.nmgc_mark.specs.{Marker.HasMarked, Marker.HasRoomToMark, Seen.Mar
 pub use Rattle.nmgc_object.specs.{FinQueue.FinQueue, Words.InSegment, Words.IsName, Words.name_word, declared.layout.Layout.Layout, declared.layout.TheConstants.SHARED_PLACE, declared.size.TheConstants.HEADER_WORDS, declared.size.TheConstants.NAME_OFFSET, declared.words.Address.Address}
 pub use Rattle.nmgc_round.specs.{Events.Happening, Events.did, Events.replay, Events.scanned, Marking.Marks, Marking.marks_of, Marking.name_at, Marking.name_meant, Marking.with_name, Objects.IsOld, Objects.Object, Objects.earlier, Rule.IsOpening, Rule.IsQueued, Rule.now, Starting.CanOpen, Starting.HandStands, View.Hand, View.Opening, laws.Common.some_at}
 pub use Rattle.nmgc_segment.specs.{Marks.IsEpoch, Segment.Segment}
-pub use Rattle.nmgc_snapshot_laws.specs.{Closing.IsClosing, Closing.IsDying, Closing.IsWaiting, Facts.AsThen, Facts.Base, Facts.Facts, Facts.IsAhead, Facts.IsLiveIn, Facts.IsSafe, Facts.Kept, Facts.MayHold, Facts.marked, Facts.owed, Facts.pushed, Machine.AreEmpty, Machine.advanced, Machine.after_scan, Scan.fields_of, Scan.is_last, Scan.moved_on, Scan.read_at, State.State, State.entry_of, State.is_listed, State.mark_name, State.mark_read, State.mark_value, State.with_mark, laws.Ending.dying_lists, laws.Ending.first_live, laws.Ending.kept_last, laws.Ending.last_kept, laws.Ending.live_first, laws.Ending.none_of, laws.Listed.all_from_contains, laws.Listed.contains_listed, laws.Listed.not_listed, laws.Lives.live_more, laws.Lives.part_there, laws.Lives.stands, laws.Marking.kept_then, laws.Marking.mark_base, laws.Marking.mark_cases, laws.Marking.mark_facts, laws.Marking.new_there, laws.Marking.still_marked, laws.ScanReads.read_cases, laws.Scans.scan_facts}
+pub use Rattle.nmgc_snapshot_laws.specs.{Closing.IsClosing, Closing.IsDying, Closing.IsWaiting, Facts.AsThen, Facts.Base, Facts.Facts, Facts.IsAhead, Facts.IsLiveIn, Facts.IsSafe, Facts.Kept, Facts.MayHold, Facts.marked, Facts.owed, Facts.pushed, Machine.AreEmpty, Machine.advanced, Machine.after_scan, Scan.fields_of, Scan.is_last, Scan.moved_on, Scan.read_at, State.State, State.entry_of, State.is_listed, State.joined as joined_queue, State.mark_name, State.mark_read, State.mark_value, State.newest_first, State.with_mark, laws.Ending.dying_lists, laws.Ending.first_live, laws.Ending.kept_last, laws.Ending.last_kept, laws.Ending.live_first, laws.Ending.none_of, laws.Listed.all_from_contains, laws.Listed.contains_listed, laws.Listed.not_listed, laws.Lives.live_more, laws.Lives.part_there, laws.Lives.stands, laws.Marking.joined_cases, laws.Marking.kept_then, laws.Marking.mark_base, laws.Marking.mark_cases, laws.Marking.mark_facts, laws.Marking.new_there, laws.Marking.still_marked, laws.ScanReads.read_cases, laws.Scans.scan_facts}
 pub use Rattle.nmgc_weak.specs.{Closes.DeathsHaveRoom, Closes.KeepsOldWeaks, Closes.LeavingLists, Closes.QueuesClose, Queues.AllJoin, Queues.HaveJoined, Queues.HaveRoom, Queues.Joins, Queues.joined, Queues.joins, Resolve.AreDeaths, Resolve.CanResolve, Resolve.HasResolved, Rows.AreRows, Rows.IsEntryAt, Rows.IsNamedAt, Rows.Row, Rows.entry_names, Rows.is_same, Rows.leaves_at, Rows.left_at, Rows.list_of, Rows.listed, Rows.row_of, Rows.without, Steps.AreLost, Steps.CanKeep, Steps.CanRescue, Steps.GoesOn, Steps.GoesTo, Steps.HasKept, Steps.HasPassed, Steps.HasRescued, Steps.HasRevived, Steps.IsKeyMarked, Steps.IsKeyMarkedWord, Steps.IsLost, Steps.IsLostAt, Steps.MarksOn, Weaks.AreWithin, Weaks.HaveLostValues, Weaks.IsWithin, Weaks.Weaks, Weaks.alive_of, Weaks.count_made_by, Weaks.deaths_of, Weaks.finaliser_place, Weaks.is_alive, Weaks.key_place, Weaks.names_of, Weaks.place_of, Weaks.place_of as place_at, Weaks.places_of, Weaks.value_place, Weaks.without_values}
 pub use Rattle.nmgc_weak.specs.{declared.row.Entry.Entry, declared.weaks.Death.Death, declared.weaks.OldWeak.OldWeak, laws.Common.finaliser_is, laws.Common.finaliser_is as word_is, laws.Common.names_same, laws.Common.of_place, laws.Left.filter_all, laws.Left.filter_cond, laws.Left.filter_same, laws.Left.filter_twice}
 pub use Rattle.nmgc_world_laws.specs.{Holds.CoversReach, Holds.Fields, Holds.HasStrongField, Holds.Names, Holds.has_result, laws.Barrier.field_at_place, laws.Closes.same_parts as one_parts, laws.Closings.closed_state, laws.Closings.with_dead, laws.Deaths.Dies, laws.Deaths.closed_mutators, laws.Deaths.closed_serials, laws.Deaths.closing_leaves_hands, laws.Deaths.dies_by, laws.Distinct.distinct_push, laws.NodeLaws.state_other, laws.NodeLaws.state_same, laws.Reached.wide_known, laws.Weaks.weak_maker, laws.Worlds.not_shared}

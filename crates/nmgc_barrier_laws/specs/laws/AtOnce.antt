@@ -75,15 +75,10 @@ read_wider names s (Some value.Nil) = refl
 read_wider names s (Some (value.Number n)) = refl
 read_wider names s (Some (value.Ref name)) = mark_wider names s name
 
-advance_wider : (names : List Name) (s : State) (queue : List Entry) → advanced (wider names s) queue ≡ wider names (advanced s queue)
-advance_wider names s [] = refl
-advance_wider names s (entry ∷ rest) = refl
-
 scan_wider : (names : List Name) (s : State) (queue : List Entry) → after_scan (wider names s) queue ≡ wider names (after_scan s queue)
 scan_wider names s [] = refl
 scan_wider names s (entry ∷ rest) =
-    let o : Option Value = read_at (node_of s.world entry.name) entry.position in
-    ap (λ (u : State). advanced u u.queue) (read_wider names s o) ∙ advance_wider names (mark_read s o) (mark_read s o).queue
+    ap (λ (u : State). advanced u entry) (read_wider names (record s { queue = rest }) (read_at (node_of s.world entry.name) entry.position))
 
 -- more names count as opened, so more may be held
 may_wider : (names : List Name) (s : State) → ((n : Name) → Contains s.opened n → Contains names n) → (n : Name) → MayHold s n → MayHold (wider names s) n

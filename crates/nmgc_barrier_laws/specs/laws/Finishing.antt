@@ -1,7 +1,7 @@
 -- Beside each list of commands and pushes a finished marker is possible. It marks and drops each name as it is pushed. Then
 -- it scans until nothing is queued. Each scan marks a new name of the snapshot, or leaves less to read in the queue.
 use Rattle.std.specs.Prelude.{◌≡◌, ◌≢◌, ◌<◌, ◌≤◌, ◌+◌, ◌-◌, ◌∷◌, ◌++◌, ◌⊎◌, ◌&&◌}
-use Rattle.nmgc_barrier_laws.specs.laws.Vocabulary.{ℕ, List, [], zero, suc, length, replicate, refl, sym, ap, subst, ◌∙◌, arith, Bool, true, false, not, cond, inl, inr, Option, Some, None, eqb, leb, IsSome, is_some, Contains, All, filter, length-replicate, get_or_past, All-nil, All-cons, Contains-append_left, Contains-append_right, Contains-push, cases_eq, cases_lt, false≢true, and_parts, and_from, and_right, or_parts, leb-false, not-true, not_from_true, not_from_false, false_from_ne_true, eqb_tells, SHARED_MAKER, Name, Value, Node, MutatorState, World, node_of, state_of, serial_of, no_mutator, IsWorld, shared_name, contains_cases, contains_head, contains_tail, get_is_some, nothing_in, contains_one, one_is, has_result, Entry, State, names_of, is_listed, is_new, with_mark, mark_name, mark_read, root_values, unmarked, opening, read_at, fields_of, is_last, moved_on, AreEmpty, after_scan, advanced, MayHold, IsSafe, owed, pushed, marked, contains_listed, listed_from, names_same, names_other, mark_cases, marked_then, Cycle, IsPushed, after_owing, Watches, Beside, IsSorted, HasFinished, SomeMarkerFinishes, names_in, after_pushing, no_names}
+use Rattle.nmgc_barrier_laws.specs.laws.Vocabulary.{ℕ, List, [], zero, suc, length, replicate, refl, sym, ap, subst, ◌∙◌, arith, Bool, true, false, not, cond, inl, inr, Option, Some, None, eqb, leb, IsSome, is_some, Contains, All, filter, length-replicate, get_or_past, All-nil, All-cons, Contains-append_left, Contains-append_right, Contains-push, cases_eq, cases_lt, false≢true, and_parts, and_from, and_right, or_parts, leb-false, not-true, not_from_true, not_from_false, false_from_ne_true, eqb_tells, SHARED_MAKER, Name, Value, Node, MutatorState, World, node_of, state_of, serial_of, no_mutator, IsWorld, shared_name, contains_cases, contains_head, contains_tail, get_is_some, nothing_in, contains_one, one_is, has_result, Entry, State, names_of, is_listed, is_new, with_mark, mark_name, mark_read, root_values, unmarked, oldest_first, opening, read_at, fields_of, is_last, moved_on, AreEmpty, after_scan, advanced, MayHold, IsSafe, owed, pushed, marked, contains_listed, listed_from, names_same, names_other, mark_cases, marked_then, Cycle, IsPushed, after_owing, Watches, Beside, IsSorted, HasFinished, SomeMarkerFinishes, names_in, after_pushing, no_names}
 use Rattle.nmgc_world_spec.specs.declared.value.Value.TheVariants as value
 use Rattle.nmgc_world_spec.specs.Reach as reach
 use Rattle.nmgc_barrier_laws.specs.Barrier as barrier
@@ -167,27 +167,23 @@ module _ (all : List Name) where
   abbrev Steps : State → State → Type 0
   Steps s t = (new_count t < new_count s) ⊎ ((new_count t ≡ new_count s) × (costs s.world t.queue < costs s.world s.queue))
 
-  advanced_count : (u : State) (queue : List Entry) → new_count (advanced u queue) ≡ new_count u
-  advanced_count u [] = refl
-  advanced_count u (entry ∷ rest) = refl
-
   step_of : (s u : State) (entry : Entry) (rest : List Entry) → s.queue ≡ entry ∷ rest → ((n : Name) → IsSome (node_of s.snapshot n) → Contains all n) →
-      Reads s u → Steps s (advanced u u.queue)
+      Reads (record s { queue = rest }) u → Steps s (advanced u entry)
   step_of s u entry rest e within nothing = inr (
-    advanced_count s s.queue,
-    subst (λ (q : List Entry). costs s.world (advanced s q).queue < costs s.world q) (sym e) (moved_less s.world entry rest),
+    refl,
+    subst (λ (q : List Entry). costs s.world (moved_on (node_of s.world entry.name) entry ++ rest) < costs s.world q) (sym e)
+        (moved_less s.world entry rest),
   )
   step_of s u entry rest e within (fresh name new) =
       let there : IsSome (node_of s.snapshot name) = (and_parts (is_some (node_of s.snapshot name)) (not (is_listed name s.marked)) new).0 in
       let less : new_count (with_mark s name) < new_count s =
       filter_less (is_new (with_mark s name)) (is_new s) (still_new s name) all name (within name there) (new_no_more s name) new in
-      inl (subst (λ (n : ℕ). n < new_count s) (sym (advanced_count (with_mark s name) (with_mark s name).queue)) less)
+      inl less
 
   scan_step : (s : State) (entry : Entry) (rest : List Entry) → s.queue ≡ entry ∷ rest → ((n : Name) → IsSome (node_of s.snapshot n) → Contains all n) →
       Steps s (after_scan s s.queue)
   scan_step s entry rest e within = subst (λ (q : List Entry). Steps s (after_scan s q)) (sym e)
-      (step_of s (mark_read s (read_at (node_of s.world entry.name) entry.position)) entry rest e within
-      (reads s (read_at (node_of s.world entry.name) entry.position)))
+      (step_of s _ entry rest e within (reads (record s { queue = rest }) (read_at (node_of s.world entry.name) entry.position)))
 
 -- A MARKER THAT SCANS UNTIL NOTHING IS QUEUED
 
@@ -315,7 +311,7 @@ module _ (w : World) (is : IsWorld w) (h next : Cycle) (s : State) (name : Name)
 
 some_ready : (w : World) → IsWorld w → (h : Cycle) → Watches w h → (s : State) × Beside w h s × ((m : ℕ) → names_of s.pushed m ≡ [])
 some_ready w is h barrier.begun =
-    let k : MarksOn (unmarked w) (opening w) = opening_marks (unmarked w) (root_values w) in
+    let k : MarksOn (unmarked oldest_first w) (opening w) = opening_marks (unmarked oldest_first w) (root_values w) in
     (opening w, barrier.start, λ m. subst (λ (l : List (List Name)). names_of l m ≡ []) (sym k.pushed) (no_names (length w.mutators) m))
 some_ready w is h (barrier.given before next line m c answer h' k) =
     let p : (s : State) × Beside w before s × ((j : ℕ) → names_of s.pushed j ≡ []) = some_ready w is before h' in

@@ -26,20 +26,20 @@ read_veiled shown s (Some value.Nil) = refl
 read_veiled shown s (Some (value.Number n)) = refl
 read_veiled shown s (Some (value.Ref name)) = mark_veiled shown s name
 
-advance_veiled : (shown : ℕ → Bool) (s : State) (queue : List Entry) → advanced (veiled shown s) queue ≡ veiled shown (advanced s queue)
-advance_veiled shown s [] = refl
-advance_veiled shown s (entry ∷ rest) = ap (λ (o : Option Node). record (veiled shown s) { queue = moved_on o entry ++ rest }) (hidden_node shown s.world entry.name)
+advance_veiled : (shown : ℕ → Bool) (s : State) (entry : Entry) → advanced (veiled shown s) entry ≡ veiled shown (advanced s entry)
+advance_veiled shown s entry =
+    ap (λ (o : Option Node). record (veiled shown s) { queue = moved_on o entry ++ s.queue }) (hidden_node shown s.world entry.name)
 
 scan_veiled : (shown : ℕ → Bool) (s : State) (queue : List Entry) → after_scan (veiled shown s) queue ≡ veiled shown (after_scan s queue)
 scan_veiled shown s [] = refl
 scan_veiled shown s (entry ∷ rest) =
     let at : ℕ = entry.position in
-    let a : mark_read (veiled shown s) (read_at (node_of (hidden shown s.world) entry.name) at) ≡
-    veiled shown (mark_read s (read_at (node_of s.world entry.name) at)) =
-    ap (λ (o : Option Node). mark_read (veiled shown s) (read_at o at)) (hidden_node shown s.world entry.name) ∙
-    read_veiled shown s (read_at (node_of s.world entry.name) at) in
-    ap (λ (u : State). advanced u u.queue) a ∙
-    advance_veiled shown (mark_read s (read_at (node_of s.world entry.name) at)) (mark_read s (read_at (node_of s.world entry.name) at)).queue
+    let t : State = record s { queue = rest } in
+    let a : mark_read (veiled shown t) (read_at (node_of (hidden shown s.world) entry.name) at) ≡
+    veiled shown (mark_read t (read_at (node_of s.world entry.name) at)) =
+    ap (λ (o : Option Node). mark_read (veiled shown t) (read_at o at)) (hidden_node shown s.world entry.name) ∙
+    read_veiled shown t (read_at (node_of s.world entry.name) at) in
+    ap (λ (u : State). advanced u entry) a ∙ advance_veiled shown (mark_read t (read_at (node_of s.world entry.name) at)) entry
 
 tied_on : (h : Hybrid) (s u : State) → IsTiedIn h s → Facts (veiled (shown_in h) u) → MarksOn s u → IsTiedIn h u
 tied_on h s u t f k = record {

@@ -7,7 +7,7 @@ use Rattle.nmgc_world_spec.specs.{declared.value.Name.Name, declared.command.Com
 use Rattle.nmgc_world_spec.specs.declared.value.Value.TheVariants as value
 use Rattle.nmgc_lists.specs.laws.Items.{contains_one, nothing_in, contains_flat}
 use Rattle.nmgc_world_laws.specs.{Holds.Names, laws.WorldSteps.step_keeps_world}
-use Rattle.nmgc_snapshot_laws.specs.{State.State, State.names_of, State.opening, State.unmarked, State.root_values, Machine.after_command, Facts.MayHold, Facts.IsSafe, Facts.Facts, Facts.owed, Facts.pushed, Facts.marked, laws.Listed.names_same, laws.Listed.names_other, laws.Listed.all_from_contains, laws.Lives.live_more, laws.Openings.opening_facts, laws.Openings.no_names}
+use Rattle.nmgc_snapshot_laws.specs.{State.State, State.names_of, State.oldest_first, State.opening, State.unmarked, State.root_values, Machine.after_command, Facts.MayHold, Facts.IsSafe, Facts.Facts, Facts.owed, Facts.pushed, Facts.marked, laws.Listed.names_same, laws.Listed.names_other, laws.Listed.all_from_contains, laws.Lives.live_more, laws.Openings.opening_facts, laws.Openings.no_names}
 use Rattle.nmgc_barrier_laws.specs.{declared.debt.Debt.Debt, Due.IsDue, Stored.IsStored, Cycle.Cycle, Cycle.Owes, Barrier.names_in, Barrier.IsOnItsWay, laws.Tied.listed_debt, laws.Tied.debt_listed, laws.Tied.all_names, laws.TiedPush.MarksOn, laws.TiedPush.opening_marks, laws.Veil.hidden_none, laws.HybridCommand.veiled, laws.HybridCommand.unseen_facts, laws.HybridCommands.seen_facts, laws.HybridCommands.due_may, laws.HybridFacts.hidden_world, laws.HybridFacts.widened_facts, laws.HybridFacts.shown_facts}
 use Rattle.nmgc_barrier_laws.specs.Hybrid.{Hybrid, hidden, bare, is_scanned, beginning, scanned_at_once, IsHandedOut, IsDueIn, IsWatchedIn, held_names, IsScanned, opening_in, after_owing_in, after_scanning}
 
@@ -266,9 +266,9 @@ all_false (suc n) (suc j) = all_false n j
 -- the cycle begins
 pub begin_tied : (w : World) → IsWorld w → IsTiedIn (beginning w) (opening_in w)
 begin_tied w is =
-    let k : MarksOn (unmarked (bare w)) (opening (bare w)) = opening_marks (unmarked (bare w)) (root_values (bare w)) in
+    let k : MarksOn (unmarked oldest_first (bare w)) (opening (bare w)) = opening_marks (unmarked oldest_first (bare w)) (root_values (bare w)) in
     let f : Facts (record (opening (bare w)) { world = bare w }) =
-    subst (λ (v : World). Facts (record (opening (bare w)) { world = v })) k.world (opening_facts (bare w) (hidden_world (λ j. false) w is)) in
+    subst (λ (v : World). Facts (record (opening (bare w)) { world = v })) k.world (opening_facts oldest_first (bare w) (hidden_world (λ j. false) w is)) in
     record {
       facts = shown_facts (opening_in w) (λ j. false) (shown_in (beginning w)) f (λ j seen.
           let bad : true ≡ false = sym seen ∙ all_false (length w.mutators) j in absurd cc);
@@ -288,8 +288,8 @@ begin_tied w is =
 -- the cycle begins with all mutators scanned
 pub begin_at_once_tied : (w : World) → IsWorld w → IsTiedIn (scanned_at_once w) (opening w)
 begin_at_once_tied w is =
-    let k : MarksOn (unmarked w) (opening w) = opening_marks (unmarked w) (root_values w) in
-    let f : Facts (opening w) = opening_facts w is in
+    let k : MarksOn (unmarked oldest_first w) (opening w) = opening_marks (unmarked oldest_first w) (root_values w) in
+    let f : Facts (opening w) = opening_facts oldest_first w is in
     let all : Facts (veiled (λ j. true) (opening w)) =
     subst (λ (v : World). Facts (record (opening w) { world = v })) (sym (hidden_none (opening w).world)) f in
     record {

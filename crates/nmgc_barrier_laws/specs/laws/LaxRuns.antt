@@ -1,6 +1,6 @@
 -- The effect of a lax run on the history.
 use Rattle.std.specs.Prelude.{◌≡◌, ◌∷◌, ◌++◌, ◌↔◌, ◌⊎◌}
-use Rattle.nmgc_barrier_laws.specs.laws.Vocabulary.{ℕ, List, [], refl, sym, subst, ◌∙◌, append-nil, inl, inr, Contains, All, Name, Command, Reply, World, IsWorld, step, Row, replayed, IsLegal, opened, finalised, opened_by, step_keeps_world, State, opening, unmarked, mark_name, root_values, after_scan, mark_facts, scan_facts, opening_facts, SameHistory, mark_history, scan_history, values_history, closing_is_exact, opened-push, replayed-push, legal_push, finalised-push, live_from, MayHold, IsSafe, Facts, after_owing, IsGiven, IsFloated, LaxKeepsFacts, LaxRow, LaxRuns, LaxTheorem, Contains-append_left, Contains-append_right, Contains-append_cases, nothing_in}
+use Rattle.nmgc_barrier_laws.specs.laws.Vocabulary.{ℕ, List, [], refl, sym, subst, ◌∙◌, append-nil, inl, inr, Contains, All, Name, Command, Reply, World, IsWorld, step, Row, replayed, IsLegal, opened, finalised, opened_by, step_keeps_world, State, oldest_first, opening, unmarked, mark_name, root_values, after_scan, mark_facts, scan_facts, opening_facts, SameHistory, mark_history, scan_history, values_history, closing_is_exact, opened-push, replayed-push, legal_push, finalised-push, live_from, MayHold, IsSafe, Facts, after_owing, IsGiven, IsFloated, LaxKeepsFacts, LaxRow, LaxRuns, LaxTheorem, Contains-append_left, Contains-append_right, Contains-append_cases, nothing_in}
 use Rattle.nmgc_barrier_laws.specs.Lax as lax
 use Rattle.nmgc_barrier_laws.specs.laws.{Given.given_facts, Laxer.shuffled_facts, Floating.floated_facts}
 
@@ -153,9 +153,9 @@ row_on w rows row extra one s next u (lax.scan e none no_name) =
 
 opens : (w : World) → IsWorld w → IsUnderWay w [] [] (opening w)
 opens w h =
-    let start : SameHistory (unmarked w) (opening w) = values_history (unmarked w) (root_values w) in
+    let start : SameHistory (unmarked oldest_first w) (opening w) = values_history (unmarked oldest_first w) (root_values w) in
     record {
-      facts = opening_facts w h;
+      facts = opening_facts oldest_first w h;
       world = subst IsWorld (sym start.world) h;
       legal = tt;
       snapshot = start.snapshot;

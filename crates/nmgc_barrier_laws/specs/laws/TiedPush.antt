@@ -1,6 +1,6 @@
 -- A push of any name keeps a watch and a state tied, and so does the marker; and the end is exact.
 use Rattle.std.specs.Prelude.{◌≡◌, ◌<◌, ◌∷◌, ◌++◌, ◌↔◌}
-use Rattle.nmgc_barrier_laws.specs.laws.Vocabulary.{ℕ, List, [], zero, suc, length, replicate, set, refl, sym, ap, subst, ◌∙◌, arith, length-set, inl, inr, Option, Some, None, IsSome, Contains, All, length-replicate, All-nil, All-cons, Contains-append_left, Contains-append_right, Contains-append_cases, cases_eq, Name, Value, World, node_of, IsWorld, IsLive, IsDead, IsKept, Lists, contains_head, nothing_in, contains_one, one_is, name_cases, Entry, State, names_of, mark_name, mark_read, mark_values, root_values, unmarked, opening, read_at, IsPossible, AreEmpty, after_scan, advanced, IsClosing, MayHold, IsSafe, Facts, owed, pushed, marked, names_same, names_other, live_more, mark_cases, mark_facts, scan_facts, closing_is_exact, IsExactClosing, IsShuffled, Debt, Cycle, Owes, IsPushed, IsTook, MarksName, watching, opening_facts, no_names, names_in, IsOnItsWay}
+use Rattle.nmgc_barrier_laws.specs.laws.Vocabulary.{ℕ, List, [], zero, suc, length, replicate, set, refl, sym, ap, subst, ◌∙◌, arith, length-set, inl, inr, Option, Some, None, IsSome, Contains, All, length-replicate, All-nil, All-cons, Contains-append_left, Contains-append_right, Contains-append_cases, cases_eq, Name, Value, World, node_of, IsWorld, IsLive, IsDead, IsKept, Lists, contains_head, nothing_in, contains_one, one_is, name_cases, Entry, State, names_of, mark_name, mark_read, mark_values, root_values, unmarked, oldest_first, opening, read_at, IsPossible, AreEmpty, after_scan, advanced, IsClosing, MayHold, IsSafe, Facts, owed, pushed, marked, names_same, names_other, live_more, mark_cases, mark_facts, scan_facts, closing_is_exact, IsExactClosing, IsShuffled, Debt, Cycle, Owes, IsPushed, IsTook, MarksName, watching, opening_facts, no_names, names_in, IsOnItsWay}
 use Rattle.nmgc_world_spec.specs.declared.value.Value.TheVariants as value
 use Rattle.nmgc_world_spec.specs.Reach as reach
 use Rattle.nmgc_snapshot_laws.specs.declared.event.Event.TheVariants as event
@@ -140,9 +140,8 @@ marks_read s (Some value.Nil) = marks_same s
 marks_read s (Some (value.Number n)) = marks_same s
 marks_read s (Some (value.Ref name)) = marks_name s name
 
-marks_advanced : (s u : State) (queue : List Entry) → MarksOn s u → MarksOn s (advanced u queue)
-marks_advanced s u [] k = k
-marks_advanced s u (entry ∷ rest) k = record {
+marks_advanced : (s u : State) (entry : Entry) (rest : List Entry) → MarksOn (record s { queue = rest }) u → MarksOn s (advanced u entry)
+marks_advanced s u entry rest k = record {
   world = k.world;
   snapshot = k.snapshot;
   opened = k.opened;
@@ -155,9 +154,7 @@ marks_advanced s u (entry ∷ rest) k = record {
 
 pub marks_scan : (s : State) (queue : List Entry) → MarksOn s (after_scan s queue)
 marks_scan s [] = marks_same s
-marks_scan s (entry ∷ rest) =
-    marks_advanced s (mark_read s (read_at (node_of s.world entry.name) entry.position))
-    (mark_read s (read_at (node_of s.world entry.name) entry.position)).queue (marks_read s (read_at (node_of s.world entry.name) entry.position))
+marks_scan s (entry ∷ rest) = marks_advanced s _ entry rest (marks_read (record s { queue = rest }) (read_at (node_of s.world entry.name) entry.position))
 
 may_on : (s u : State) (name : Name) → u.snapshot ≡ s.snapshot → u.opened ≡ s.opened → MayHold s name → MayHold u name
 may_on s u name e o h there = rw (e, o) (h (rw e at there))
@@ -292,9 +289,9 @@ opening_marks s (value.Ref name ∷ values) =
 
 pub tied_opening : (w : World) → IsWorld w → IsTied (watching w) (opening w)
 tied_opening w h =
-    let k : MarksOn (unmarked w) (opening w) = opening_marks (unmarked w) (root_values w) in
+    let k : MarksOn (unmarked oldest_first w) (opening w) = opening_marks (unmarked oldest_first w) (root_values w) in
     record {
-      facts = opening_facts w h;
+      facts = opening_facts oldest_first w h;
       closed = subst IsWorld (sym k.world) h;
       is_open = k.is_closed;
       world = k.world;

@@ -1,5 +1,5 @@
 -- A cycle begins: no byte is its epoch, and the machine that has marked the roots is at rest.
-use Rattle.nmgc_collector_laws.proofs.Vocabulary.{◌≡◌, ◌≢◌, ◌+◌, ◌%◌, ℕ, Bool, true, false, List, [], ◌∷◌, length, replicate, refl, sym, ap, ◌∙◌, arith, inl, inr, cond, All, eqb_tells, All-nil, All-cons, All-append, Name, Value, World, IsWorld, epoch_of, mark_of, State, names_of, entry_of, mark_name, mark_values, opening, root_values, unmarked, mark_cases, nth, Segments, HasNumber, NoneIs, IsIn, StandsFor, AreSettled, IsUnread, RunState, next_cycle, IsMachineAtRest, none_at_first}
+use Rattle.nmgc_collector_laws.proofs.Vocabulary.{Entry, ◌≡◌, ◌≢◌, ◌+◌, ◌%◌, ℕ, Bool, true, false, List, [], ◌∷◌, length, replicate, refl, sym, ap, ◌∙◌, arith, inl, inr, cond, All, eqb_tells, All-nil, All-cons, All-append, Name, Value, World, IsWorld, epoch_of, mark_of, State, names_of, entry_of, mark_name, mark_values, newest_first, opening_in, root_values, unmarked, mark_cases, nth, Segments, HasNumber, NoneIs, IsIn, StandsFor, AreSettled, IsUnread, RunState, next_cycle, IsMachineAtRest, none_at_first, Order, oldest_first, joined}
 use Rattle.nmgc_world_spec.specs.declared.value.Value.TheVariants as value
 use Rattle.nmgc_segment.specs.declared.state.State.TheVariants as stands
 use Rattle.nmgc_collector_laws.proofs.cycles.Pushing.{all_empty}
@@ -53,6 +53,11 @@ pub record IsBegun (w : World) (s : State) : Type 0 where
   pub open_yet : s.is_closed ≡ false
   pub fresh : All IsUnread s.queue
 
+joined_unread : (order : Order) (queue : List Entry) (name : Name) → All IsUnread queue → All IsUnread (joined order queue (entry_of name))
+joined_unread oldest_first queue name h =
+    All-append IsUnread queue (entry_of name ∷ []) h (All-cons IsUnread (entry_of name) [] refl (All-nil IsUnread))
+joined_unread newest_first queue name h = All-cons IsUnread (entry_of name) queue refl h
+
 begun_name : (w : World) (s : State) (name : Name) → IsBegun w s → IsBegun w (mark_name s name)
 begun_name w s name h = mark_cases (IsBegun w) s name
     (λ new. record {
@@ -60,7 +65,7 @@ begun_name w s name h = mark_cases (IsBegun w) s name
       owed_is = h.owed_is;
       pushed_is = h.pushed_is;
       open_yet = h.open_yet;
-      fresh = All-append IsUnread s.queue (entry_of name ∷ []) h.fresh (All-cons IsUnread (entry_of name) [] refl (All-nil IsUnread));
+      fresh = joined_unread s.order s.queue name h.fresh;
     })
     (λ old. h)
 
@@ -70,11 +75,11 @@ begun_values w s (value.Nil ∷ values) h = begun_values w s values h
 begun_values w s (value.Number n ∷ values) h = begun_values w s values h
 begun_values w s (value.Ref name ∷ values) h = begun_values w (mark_name s name) values (begun_name w s name h)
 
-pub begun : (w : World) → IsBegun w (opening w)
-begun w = begun_values w (unmarked w) (root_values w) (record { world_is = refl; owed_is = refl; pushed_is = refl; open_yet = refl; fresh = All-nil IsUnread })
+pub begun : (w : World) → IsBegun w (opening_in newest_first w)
+begun w = begun_values w (unmarked newest_first w) (root_values w) (record { world_is = refl; owed_is = refl; pushed_is = refl; open_yet = refl; fresh = All-nil IsUnread })
 
 -- the machine that has marked the roots is at rest
-pub opening_rests : (s : RunState) → IsWorld s.world → IsMachineAtRest (next_cycle s) s.world (opening s.world)
+pub opening_rests : (s : RunState) → IsWorld s.world → IsMachineAtRest (next_cycle s) s.world (opening_in newest_first s.world)
 opening_rests s world =
     let b = begun s.world in
     record {
@@ -85,10 +90,10 @@ opening_rests s world =
         open_yet = b.open_yet;
         world_is = b.world_is;
         handed = λ name owed there. absurd (nothing_in name owed);
-        nothing_owed = all_empty (opening s.world).owed (λ k lt. ap (λ (l : List (List Name)). names_of l k) b.owed_is ∙
+        nothing_owed = all_empty (opening_in newest_first s.world).owed (λ k lt. ap (λ (l : List (List Name)). names_of l k) b.owed_is ∙
             none_at_first (length s.world.mutators) k);
       };
-      none_pushed = all_empty (opening s.world).pushed (λ k lt. ap (λ (l : List (List Name)). names_of l k) b.pushed_is ∙
+      none_pushed = all_empty (opening_in newest_first s.world).pushed (λ k lt. ap (λ (l : List (List Name)). names_of l k) b.pushed_is ∙
           none_at_first (length s.world.mutators) k);
       fresh = b.fresh;
     }

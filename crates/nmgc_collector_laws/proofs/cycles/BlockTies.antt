@@ -109,6 +109,7 @@ module _ (o : Opening) (c : Cycle) (s : Segments) (words : List ℕ) (a : AllocS
                   rw name at (m.0 (rw one.0 (subst (λ x. IsMarked (nth s.segments t.0) marker.epoch x) (sym one.1) t.3))),
               λ t. (g.0, g.1, g.2, m.1 (subst (λ x. Contains core.marked x) (sym name) t)),
             );
+        order = h.order;
         queue = to_queued o.places marker.queue core.queue h.queue h.fresh;
         count = h.count;
       },
@@ -154,6 +155,7 @@ module _ (o : Opening) (c : Cycle) (s : Segments) (words : List ℕ) (a : AllocS
                 let one = same_block s m.0 m.1 n b at k.sound m.2 g in
                 subst (λ y. IsMarked (nth s.segments y) marker.epoch b) one.0 (subst (λ y. IsMarked (nth s.segments m.0) marker.epoch y) one.1 m.3),
           );
+      order = t.order;
       queue = (from_queued o.places marker.queue core.queue t.queue).0;
       fresh = (from_queued o.places marker.queue core.queue t.queue).1;
       count = t.count;

@@ -1,12 +1,12 @@
 -- The marker's calls, over the laws of the machine.
-use Rattle.nmgc_collector_laws.proofs.Vocabulary.{ℕ, ◌≡◌, ◌++◌, true, List, [], ◌∷◌, length, map, refl, sym, ap, subst, ◌∙◌, inr, flat_map, length-map, World, Core, names_of, opening, Place, map_item, AllocState, rows_in, places_then, Opening, Scan, View, IsMarking, Marks, marks_of, marks_after, now, AreAt, AreRemembered, IsTied, MutatorSeen, Cycle, next_cycle, cycle_started, AreOfBlocks, TiesAgree, IsTiedByPlaces, with_places, all_prepared, all_entries, SnapshotIsMarking, RoundIsMarking, AddIsMarking, gathered, with_rows, core_facts}
+use Rattle.nmgc_collector_laws.proofs.Vocabulary.{ℕ, ◌≡◌, ◌++◌, true, List, [], ◌∷◌, length, map, refl, sym, ap, subst, ◌∙◌, inr, flat_map, length-map, World, Core, names_of, newest_first, opening_in, Place, map_item, AllocState, rows_in, places_then, Opening, Scan, View, IsMarking, Marks, marks_of, marks_after, now, AreAt, AreRemembered, IsTied, MutatorSeen, Cycle, next_cycle, cycle_started, AreOfBlocks, TiesAgree, IsTiedByPlaces, with_places, all_prepared, all_entries, SnapshotIsMarking, RoundIsMarking, AddIsMarking, gathered, with_rows, core_facts}
 use Rattle.nmgc_collector_laws.proofs.{cycles.Beginning.opening_rests, cycles.Keeping.add_keeps_marking, cycles.Keeping.cycle_is_marking, cycles.Keeping.round_keeps_marking, cycles.Pacing.marks_found, cycles.Preparing.stop_begins, cycles.RoundHeap.marked_holds, cycles.Taking.machine_takes, cycles.Taking.places_mark, cycles.Tying.MarksLaw, cycles.Tying.EndsLaw, cycles.Tying.core_snapshot, cycles.Tying.heap_of_blocks, cycles.Tying.round_ends}
 
 pub snapshot_is_marking : MarksLaw → TiesAgree → SnapshotIsMarking
 snapshot_is_marking law agree layout s words old new ends weaks o spare h world sound_new same places snapshot marked tied queue_room nothing from
     noted nothing_listed =
     let c : Cycle = next_cycle s in
-    let core : Core = opening s.world in
+    let core : Core = opening_in newest_first s.world in
     let k = stop_begins layout s words old ends weaks h in
     let m = marked_holds layout (cycle_started s) words (all_prepared old) new.segments ends weaks k.0 (marked.layout ∙
     h.holds.layout_is) (marked.stands words _ k.0.holds.stands) in
@@ -15,7 +15,7 @@ snapshot_is_marking law agree layout s words old new ends weaks o spare h world 
     heap_of_blocks law layout (cycle_started s) words new.segments ends weaks c s.world core o m.0 sound_new rest.sound rest.machine same
     (places ∙ sym k.1 ∙ sym m.1) snapshot in
     let here : IsTiedByPlaces o (marks_of core) new.segments new.marker =
-    subst (λ (w : World). IsTiedByPlaces o (marks_of (opening w)) new.segments new.marker) snapshot tied in
+    subst (λ (w : World). IsTiedByPlaces o (marks_of (opening_in newest_first w)) new.segments new.marker) snapshot tied in
     let by_blocks : IsTied c (cycle_started s).allocation new.segments o.places new.marker core =
     (agree o c new.segments words (cycle_started s).allocation core new.marker blocks).1 (marked.scanned.epoch, here) in
     cycle_is_marking s new h.places world (rw places at by_blocks) marked.room queue_room nothing from noted nothing_listed

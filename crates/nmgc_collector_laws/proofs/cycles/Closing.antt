@@ -1,5 +1,5 @@
 -- At a stop the machine goes on by scans alone.
-use Rattle.nmgc_collector_laws.proofs.{Vocabulary.◌≡◌, Vocabulary.◌++◌, Vocabulary.List, Vocabulary.[], Vocabulary.◌∷◌, Vocabulary.map, Vocabulary.refl, Vocabulary.sym, Vocabulary.ap, Vocabulary.subst, Vocabulary.◌∙◌, Vocabulary.append-nil, Vocabulary.All, Vocabulary.Row, Vocabulary.World, Vocabulary.AreEmpty, Vocabulary.after_scan, Vocabulary.Runs, Vocabulary.State, Vocabulary.opening, Vocabulary.Happening, Vocabulary.IsLegal, Vocabulary.did, Vocabulary.scanned, Vocabulary.event_of, Vocabulary.replay, Vocabulary.rows_in, Vocabulary.IsUnread, Vocabulary.Cycle, Vocabulary.world_scanned, Vocabulary.AreScans, Vocabulary.IsMachineAtRest, Vocabulary.runs_then, cycles.Going.Leaves, cycles.Going.round_runs, cycles.Going.leaves_round, cycles.Going.same_owed}
+use Rattle.nmgc_collector_laws.proofs.{Vocabulary.◌≡◌, Vocabulary.◌++◌, Vocabulary.List, Vocabulary.[], Vocabulary.◌∷◌, Vocabulary.map, Vocabulary.refl, Vocabulary.sym, Vocabulary.ap, Vocabulary.subst, Vocabulary.◌∙◌, Vocabulary.append-nil, Vocabulary.All, Vocabulary.Row, Vocabulary.World, Vocabulary.AreEmpty, Vocabulary.after_scan, Vocabulary.Runs, Vocabulary.State, Vocabulary.newest_first, Vocabulary.opening_in, Vocabulary.Happening, Vocabulary.IsLegal, Vocabulary.did, Vocabulary.scanned, Vocabulary.event_of, Vocabulary.replay, Vocabulary.rows_in, Vocabulary.IsUnread, Vocabulary.Cycle, Vocabulary.world_scanned, Vocabulary.AreScans, Vocabulary.IsMachineAtRest, Vocabulary.runs_then, cycles.Going.Leaves, cycles.Going.round_runs, cycles.Going.leaves_round, cycles.Going.same_owed}
 use Rattle.nmgc_snapshot_laws.specs.laws.MarkedOnce.{marked_runs}
 
 -- scans alone have no rows
@@ -16,8 +16,8 @@ machine_scans c w core events h legal scans fresh =
     let t : State = replay core events in
     let l : Leaves core t = leaves_round core events in
     let m = h.machine in
-    let runs : Runs (opening c.snapshot) (m.events ++ map event_of events) (c.rows ++ rows_in events) t =
-    runs_then (opening c.snapshot) core t m.events (map event_of events) c.rows (rows_in events) m.runs (round_runs core events legal) in
+    let runs : Runs (opening_in newest_first c.snapshot) (m.events ++ map event_of events) (c.rows ++ rows_in events) t =
+    runs_then (opening_in newest_first c.snapshot) core t m.events (map event_of events) c.rows (rows_in events) m.runs (round_runs core events legal) in
     record {
       sound = h.sound;
       machine = record {

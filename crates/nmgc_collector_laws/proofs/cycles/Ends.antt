@@ -1,9 +1,9 @@
 -- A cycle that closes with weak pointers: exactly the kept names are marked, and exactly the dead weak pointers die.
-use Rattle.nmgc_collector_laws.proofs.Vocabulary.{ℕ, List, refl, sym, subst, inl, inr, Contains, IsSome, Name, World, node_of, shared_name, IsDead, IsKept, Lists, IsSound, finalised_dead, IsClosing, IsRevived, IsRescued, IsExactClosing, State, opening, closing_is_exact, snapshot_theorem, Segments, AllocState, Opening, IsDeadIn, IsKeptIn, interval_of, Cycle, IsCoreOf, others_counted, once_runs, once_opening, AreOfBlocks, TiesAgree, CycleMayResolve, CycleCloses, facts_of}
+use Rattle.nmgc_collector_laws.proofs.Vocabulary.{ℕ, List, refl, sym, subst, inl, inr, Contains, IsSome, Name, World, node_of, shared_name, IsDead, IsKept, Lists, IsSound, finalised_dead, IsClosing, IsRevived, IsRescued, IsExactClosing, State, newest_first, opening_in, closing_is_exact, snapshot_theorem, Segments, AllocState, Opening, IsDeadIn, IsKeptIn, interval_of, Cycle, IsCoreOf, others_counted, once_runs, once_opening, AreOfBlocks, TiesAgree, CycleMayResolve, CycleCloses, facts_of}
 use Rattle.nmgc_snapshot_laws.specs.Run.{IsMarking}
 
 marking_of : (c : Cycle) (w : World) (core : State) → IsSound (interval_of c) → IsCoreOf c w core → IsMarking c.snapshot c.rows core
-marking_of c w core sound m = (snapshot_theorem c.snapshot sound.world m.events c.rows core m.runs).before m.open_yet
+marking_of c w core sound m = (snapshot_theorem newest_first c.snapshot sound.world m.events c.rows core m.runs).before m.open_yet
 
 pub may_resolve : CycleMayResolve
 may_resolve c o words s marker weaks sound m pushed empty marking spoken ready listed =
@@ -12,7 +12,7 @@ may_resolve c o words s marker weaks sound m pushed empty marking spoken ready l
       ready = ready;
       marking = marking;
       facts = facts_of c o.core.world o.core sound m;
-      once = (once_runs (opening c.snapshot) m.events c.rows o.core m.runs m.open_yet (once_opening c.snapshot)).once;
+      once = (once_runs (opening_in newest_first c.snapshot) m.events c.rows o.core m.runs m.open_yet (once_opening newest_first c.snapshot)).once;
       gone = λ weak parts c_fin alive. finalised_dead c.snapshot c.rows sound.world sound.rows weak parts (rw k.world at alive) (rw k.finalised at c_fin);
       can_close = (m.open_yet, empty, m.nothing_owed, pushed);
       earlier_are = spoken;

@@ -1,5 +1,5 @@
 -- In every run of the machine only names are marked that the cycle's scans may meet (`IsMet HoldsOnce`).
-use Rattle.nmgc_collector_laws.proofs.Vocabulary.{◌≡◌, ◌<◌, ◌++◌, ◌∷◌, ◌∙◌, ℕ, true, false, List, [], length, refl, sym, ap, subst, arith, append-nil, append_assoc, inl, inr, Some, All, Contains, All-nil, All-append, All-head, All-tail, Contains-append_left, Contains-append_right, contains_one, Command, Reply, Name, World, IsWorld, node_of, CanApply, step, Row, replayed, owed_by, owed_along, Entry, Event, Facts, HasStrongField, Passes, after_command, after_push, after_scan, after_take, pushed_of, Runs, State, names_of, read_at, opening, opening_world, each_names, mark_cases, none_at_first, event_keeps_facts, opening_has_facts, snapshot_theorem, Happening, did, scanned, IsLegal, replay, rows_in, Cycle, IsMachineAtRest, with_rows}
+use Rattle.nmgc_collector_laws.proofs.Vocabulary.{◌≡◌, ◌<◌, ◌++◌, ◌∷◌, ◌∙◌, ℕ, true, false, List, [], length, refl, sym, ap, subst, arith, append-nil, append_assoc, inl, inr, Some, All, Contains, All-nil, All-append, All-head, All-tail, Contains-append_left, Contains-append_right, contains_one, Command, Reply, Name, World, IsWorld, node_of, CanApply, step, Row, replayed, owed_by, owed_along, Entry, Event, Facts, HasStrongField, Passes, after_command, after_push, after_scan, after_take, pushed_of, Runs, State, names_of, read_at, newest_first, opening_in, opening_world, each_names, mark_cases, none_at_first, event_keeps_facts, opening_has_facts, snapshot_theorem, Happening, did, scanned, IsLegal, replay, rows_in, Cycle, IsMachineAtRest, with_rows}
 use Rattle.nmgc_world_spec.specs.World.{shared_name, is_same_name}
 use Rattle.nmgc_run_spec.specs.Run.{HoldsOnce, IsMet}
 use Rattle.nmgc_snapshot_laws.specs.laws.{Listed.has_place, MarkedOnce.open_before, Runs.SameHistory, Runs.push_history, Runs.scan_history, Runs.take_history, Runs.replayed-push}
@@ -238,15 +238,15 @@ module _ (c : Cycle) (is : IsWorld c.snapshot) where
       absurd (let on : next.is_closed ≡ true = ap (λ (x : State). x.is_closed) first.1.rest in
       let bad : true ≡ false = sym on ∙ open_before next es rest t later running in cc)
 
-  owed_opening : IsOwedSo [] (opening c.snapshot)
+  owed_opening : IsOwedSo [] (opening_in newest_first c.snapshot)
   owed_opening =
-      let b : IsBegun c.snapshot (opening c.snapshot) = begun c.snapshot in
+      let b : IsBegun c.snapshot (opening_in newest_first c.snapshot) = begun c.snapshot in
       record {
         so = record {
-          facts = opening_has_facts c.snapshot is;
-          world = subst IsWorld (sym (opening_world c.snapshot)) is;
-          snapshot_is = ((snapshot_theorem c.snapshot is [] [] (opening c.snapshot) (refl, refl)).before b.open_yet).snapshot;
-          world_is = opening_world c.snapshot;
+          facts = opening_has_facts newest_first c.snapshot is;
+          world = subst IsWorld (sym (opening_world newest_first c.snapshot)) is;
+          snapshot_is = ((snapshot_theorem newest_first c.snapshot is [] [] (opening_in newest_first c.snapshot) (refl, refl)).before b.open_yet).snapshot;
+          world_is = opening_world newest_first c.snapshot;
           marks = marks_opening c.snapshot (Met []) (λ n r. IsMet.root n r) (λ n r. IsMet.slot n r);
         };
         owed = λ m. subst (All Handed) (sym (ap (λ (l : List (List Name)). names_of l m) b.owed_is ∙ none_at_first (length c.snapshot.mutators) m))
@@ -261,7 +261,7 @@ pub round_finds : (c : Cycle) (w : World) (core : State) (hs : List Happening) �
 round_finds c w core hs rest legal n k =
     let d : Cycle = with_rows c (rows_in hs) in
     let m = rest.machine in
-    let may : (j : Name) → Contains (owed_along (opening c.snapshot).world c.rows) j → Contains (owed_along c.snapshot c.rows) j = λ j owes.
-    subst (λ (v : World). Contains (owed_along v c.rows) j) (opening_world c.snapshot) owes in
-    let before = owed_runs d rest.sound.world [] (opening c.snapshot) m.events c.rows core m.runs m.open_yet may (owed_opening d rest.sound.world) in
+    let may : (j : Name) → Contains (owed_along (opening_in newest_first c.snapshot).world c.rows) j → Contains (owed_along c.snapshot c.rows) j = λ j owes.
+    subst (λ (v : World). Contains (owed_along v c.rows) j) (opening_world newest_first c.snapshot) owes in
+    let before = owed_runs d rest.sound.world [] (opening_in newest_first c.snapshot) m.events c.rows core m.runs m.open_yet may (owed_opening d rest.sound.world) in
     (found_round d rest.sound.world c.rows core hs legal m.open_yet before.so).marks.each n k

@@ -1,5 +1,5 @@
 -- Names of the snapshot that the commands of a run owed are safe, and so they are marked while nothing is owed or pushed.
-use Rattle.nmgc_collector_laws.proofs.Vocabulary.{◌≡◌, ◌⊎◌, ℕ, true, false, List, [], ◌∷◌, sym, ap, subst, ◌∙◌, refl, inl, inr, IsSome, Contains, Contains-append_cases, Name, World, IsWorld, node_of, step, Row, owed_along, owed_by, Entry, Event, Facts, IsSafe, marked, owed, AreEmpty, Passes, after_command, after_push, after_scan, after_take, Runs, State, names_of, opening, nothing_in, each_empty, event_keeps_facts, opening_has_facts, opening_world, snapshot_theorem}
+use Rattle.nmgc_collector_laws.proofs.Vocabulary.{◌≡◌, ◌⊎◌, ℕ, true, false, List, [], ◌∷◌, sym, ap, subst, ◌∙◌, refl, inl, inr, IsSome, Contains, Contains-append_cases, Name, World, IsWorld, node_of, step, Row, owed_along, owed_by, Entry, Event, Facts, IsSafe, marked, owed, AreEmpty, Passes, after_command, after_push, after_scan, after_take, Runs, State, names_of, newest_first, opening_in, nothing_in, each_empty, event_keeps_facts, opening_has_facts, opening_world, snapshot_theorem}
 use Rattle.nmgc_snapshot_laws.specs.{Facts.pushed, laws.Commands.still_safe, laws.Commands.owed_safe, laws.Handing.push_safe, laws.Handing.take_safe, laws.MarkedOnce.marked_scan, laws.MarkedOnce.open_before, laws.Runs.SameHistory, laws.Runs.push_history, laws.Runs.scan_history, laws.Runs.take_history}
 use Rattle.nmgc_snapshot_laws.specs.declared.event.Event.TheVariants as event
 use Rattle.nmgc_collector_laws.proofs.{cycles.Beginning.begun, cycles.Going.leaves_scan, cycles.Going.owed_scan}
@@ -86,14 +86,14 @@ module _ (S : World) (is : IsWorld S) (n : Name) (there : IsSome (node_of S n)) 
       let on : next.is_closed ≡ true = ap (λ (x : State). x.is_closed) first.1.rest in
       absurd (let bad : true ≡ false = sym on ∙ open_before next es rest t later running in cc)
 
-  pub owed_marked : (es : List Event) (rows : List Row) (core : State) → Runs (opening S) es rows core → core.is_closed ≡ false → AreEmpty core.owed →
+  pub owed_marked : (es : List Event) (rows : List Row) (core : State) → Runs (opening_in newest_first S) es rows core → core.is_closed ≡ false → AreEmpty core.owed →
       AreEmpty core.pushed → Contains (owed_along S rows) n → Contains core.marked n
   owed_marked es rows core runs running none_owed none_pushed k =
-      by_safe (safe_runs (opening S) es rows core runs running (record {
-        facts = opening_has_facts S is;
-        world = subst IsWorld (sym (opening_world S)) is;
-        snapshot_is = ((snapshot_theorem S is [] [] (opening S) (refl, refl)).before (begun S).open_yet).snapshot;
-        safe = inr (subst (λ (w : World). Contains (owed_along w rows) n) (sym (opening_world S)) k);
+      by_safe (safe_runs (opening_in newest_first S) es rows core runs running (record {
+        facts = opening_has_facts newest_first S is;
+        world = subst IsWorld (sym (opening_world newest_first S)) is;
+        snapshot_is = ((snapshot_theorem newest_first S is [] [] (opening_in newest_first S) (refl, refl)).before (begun S).open_yet).snapshot;
+        safe = inr (subst (λ (w : World). Contains (owed_along w rows) n) (sym (opening_world newest_first S)) k);
       }))
     where
       by_safe : IsSafe core n → Contains core.marked n

@@ -1,5 +1,5 @@
 -- A marking cycle, kept over a round, a promotion and an add; and its pace.
-use Rattle.nmgc_collector_laws.proofs.Vocabulary.{◌≡◌, ◌≢◌, ◌-◌, ◌*◌, ◌<◌, ◌≤◌, ℕ, true, false, List, [], ◌∷◌, map, length, refl, sym, ap, subst, ◌∙◌, arith, inl, inr, Some, Contains, slice_get, filter, Name, World, IsWorld, IsSound, nothing_in, item, not_none, nursery_place, Layout, Entry, is_pushed_in, Core, names_of, opening, AllocState, IsOne, IsIn, cycle_begun, Place, rows_in, IsFinished, places_then, now, Opening, View, Mutator, interval_of, Cycle, IsMarking, EachMutator, weak_count, ListsNumbers, AreAt, AreRemembered, IsCoreOf, IsTied, HasRoomToMark, HasListedNothing, HasNoted, epoch_of, CollectorSeen, MutatorSeen, CycleSeen, SweeperSeen, MarkerSeen, next_cycle, cycle_started, one_more, GoesOn, IsMachineAtRest, with_rows, places_after, NoneRemember, HasLeft, ShowEntries, PromotionKeepsMarking, PaceAfterRound, PaceAtStop, PaceBegins, none_at_first, each_empty}
+use Rattle.nmgc_collector_laws.proofs.Vocabulary.{◌≡◌, ◌≢◌, ◌-◌, ◌*◌, ◌<◌, ◌≤◌, ℕ, true, false, List, [], ◌∷◌, map, length, refl, sym, ap, subst, ◌∙◌, arith, inl, inr, Some, Contains, slice_get, filter, Name, World, IsWorld, IsSound, nothing_in, item, not_none, nursery_place, Layout, Entry, is_pushed_in, Core, names_of, newest_first, opening_in, AllocState, IsOne, IsIn, cycle_begun, Place, rows_in, IsFinished, places_then, now, Opening, View, Mutator, interval_of, Cycle, IsMarking, EachMutator, weak_count, ListsNumbers, AreAt, AreRemembered, IsCoreOf, IsTied, HasRoomToMark, HasListedNothing, HasNoted, epoch_of, CollectorSeen, MutatorSeen, CycleSeen, SweeperSeen, MarkerSeen, next_cycle, cycle_started, one_more, GoesOn, IsMachineAtRest, with_rows, places_after, NoneRemember, HasLeft, ShowEntries, PromotionKeepsMarking, PaceAfterRound, PaceAtStop, PaceBegins, none_at_first, each_empty}
 use Rattle.nmgc_run_spec.specs.Run.{State}
 use Rattle.nmgc_segment.specs.declared.state.State.TheVariants as stands
 use Rattle.nmgc_collector_laws.proofs.{cycles.Beginning.IsBegun, cycles.Beginning.begun, cycles.Pushing.all_empty, cycles.Snapshots.IsReachedBy, cycles.Snapshots.reached_core, cycles.Staying.remembered_stays, cycles.Staying.tie_is_kept, cycles.Taking.HasTaken}
@@ -21,12 +21,12 @@ none_low seen nothing k mutator there at d = absurd (nothing_in at (subst (λ (l
 
 -- a cycle begins: the marker has the marks that the machine gives the roots, and the sweeper has noted the segments to sweep
 pub cycle_is_marking : (s : State) (seen : CollectorSeen) (places : List Place) → IsWorld s.world →
-    IsTied (next_cycle s) (cycle_begun s.allocation) seen.segments places seen.marker (opening s.world) → HasRoomToMark seen.segments seen.marker
+    IsTied (next_cycle s) (cycle_begun s.allocation) seen.segments places seen.marker (opening_in newest_first s.world) → HasRoomToMark seen.segments seen.marker
     → EachMutator seen (λ m mutator. weak_count s.world m seen.weaks ≤ mutator.queue.spare) → NoneRemember seen → seen.cycle.from ≡ s.number →
     HasNoted (next_cycle s) seen.sweeper → HasListedNothing seen.sweeper
     → IsMarking (next_cycle s) (cycle_started s) seen places
 cycle_is_marking s seen places world tied room queue_room nothing from noted nothing_listed =
-    let core : Core = opening s.world in
+    let core : Core = opening_in newest_first s.world in
     let b : IsBegun s.world core = begun s.world in
     let none : (k : ℕ) → names_of core.pushed k ≡ [] = λ k. ap (λ (l : List (List Name)). names_of l k) b.pushed_is ∙
     none_at_first (length s.world.mutators) k in

@@ -1,5 +1,5 @@
 -- What holds of all marked names, as the marking machine marks names of the snapshot. And g, which is marked first, never waits.
-use Rattle.nmgc_collector_laws.proofs.Vocabulary.{◌≡◌, ◌⊎◌, ◌+◌, ◌∷◌, ◌∙◌, ℕ, zero, suc, Bool, true, false, not, cond, List, [], refl, sym, ap, subst, arith, inl, inr, Option, Some, None, IsSome, All, Contains, is_some, flat_map, and_parts, All-append, All-head, All-tail, All-nil, Contains-append_left, Contains-append_right, Contains-append_cases, get_or_from_slice_get, MutatorState, Node, Con, Var, Arr, Thunk, Weak, Stack, Name, Value, World, node_of, state_of, no_mutator, shared_name, IsRoot, RefersTo, strong_fields, contains_head, contains_tail, is_some_of, nothing_in, one_is, Names, HasStrongField, has_result, strong_at, Entry, Facts, advanced, after_scan, read_at, field_at, State, entry_of, is_listed, mark_name, mark_read, mark_values, opening, root_values, first_state, all_from_contains, live_there, mark_cases, read_cases, thunk_free}
+use Rattle.nmgc_collector_laws.proofs.Vocabulary.{◌≡◌, ◌⊎◌, ◌+◌, ◌∷◌, ◌∙◌, ℕ, zero, suc, Bool, true, false, not, cond, List, [], refl, sym, ap, subst, arith, inl, inr, Option, Some, None, IsSome, All, Contains, is_some, flat_map, and_parts, All-append, All-head, All-tail, All-nil, Contains-append_left, Contains-append_right, Contains-append_cases, get_or_from_slice_get, MutatorState, Node, Con, Var, Arr, Thunk, Weak, Stack, Name, Value, World, node_of, state_of, no_mutator, shared_name, IsRoot, RefersTo, strong_fields, contains_head, contains_tail, is_some_of, nothing_in, one_is, Names, HasStrongField, has_result, strong_at, Entry, Facts, advanced, after_scan, read_at, field_at, State, entry_of, is_listed, mark_name, mark_read, mark_values, newest_first, opening_in, root_values, first_state, all_from_contains, live_there, mark_cases, read_cases, thunk_free, joined_cases}
 use Rattle.nmgc_lists.specs.laws.Items.{place_of}
 use Rattle.nmgc_world_laws.specs.Holds.{free_of}
 use Rattle.nmgc_snapshot_laws.specs.{Scan.is_last, Scan.moved_on, laws.Listed.not_listed}
@@ -76,9 +76,9 @@ module _ (S : World) (P : Name → Type 0) where
           | inl old ↦ h.each n old
           | inr last ↦ subst P (one_is name n last) (may (rw same at both.0))
         ];
-        queued = λ entry c is. elim (Contains-append_cases s.queue (entry_of name ∷ []) entry c) [
+        queued = λ entry c is. elim (joined_cases s.order s.queue (entry_of name) entry c) [
           | inl old ↦ h.queued entry old is
-          | inr last ↦ fresh (subst (λ (x : Name). Contains s.marked x) (sym (ap (λ (x : Entry). x.name) (one_is (entry_of name) entry last) ∙ is)) h.shared)
+          | inr last ↦ fresh (subst (λ (x : Name). Contains s.marked x) (sym (ap (λ (x : Entry). x.name) last ∙ is)) h.shared)
         ];
       })
       (λ old. h)
@@ -98,15 +98,13 @@ module _ (S : World) (P : Name → Type 0) where
   marks_read s (Some (value.Number n)) same may h = h
   marks_read s (Some (value.Ref n)) same may h = marks_name s n same (may n refl) h
 
-  marks_advanced : (s : State) (queue : List Entry) → s.queue ≡ queue → HaveMarked s → HaveMarked (advanced s queue)
-  marks_advanced s [] e h = h
-  marks_advanced s (entry ∷ rest) e h = record {
+  marks_advanced : (s : State) (entry : Entry) → (entry.name ≡ shared_name → ⊥) → HaveMarked s → HaveMarked (advanced s entry)
+  marks_advanced s entry other h = record {
     shared = h.shared;
     each = h.each;
-    queued = λ x c is. elim (Contains-append_cases (moved_on (node_of s.world entry.name) entry) rest x c) [
-      | inl moved ↦ h.queued entry (subst (λ (l : List Entry). Contains l entry) (sym e) (contains_head entry rest))
-          (moved_name (node_of s.world entry.name) entry x moved ∙ is)
-      | inr later ↦ h.queued x (subst (λ (l : List Entry). Contains l x) (sym e) (contains_tail entry rest x later)) is
+    queued = λ x c is. elim (Contains-append_cases (moved_on (node_of s.world entry.name) entry) s.queue x c) [
+      | inl moved ↦ other (moved_name (node_of s.world entry.name) entry x moved ∙ is)
+      | inr later ↦ h.queued x later is
     ];
   }
 
@@ -117,9 +115,14 @@ module _ (S : World) (P : Name → Type 0) where
   marks_scan s [] same h e may = h
   marks_scan s (entry ∷ rest) same h e may =
       let v : Option Value = read_at (node_of s.world entry.name) entry.position in
-      let t : State = mark_read s v in
-      marks_advanced t t.queue refl
-      (marks_read s v same (may entry (subst (λ (l : List Entry). Contains l entry) (sym e) (contains_head entry rest))) h)
+      let from : State = record s { queue = rest } in
+      let here : Contains s.queue entry = subst (λ (l : List Entry). Contains l entry) (sym e) (contains_head entry rest) in
+      let left : HaveMarked from = record {
+        shared = h.shared;
+        each = h.each;
+        queued = λ x c. h.queued x (subst (λ (l : List Entry). Contains l x) (sym e) (contains_tail entry rest x c));
+      } in
+      marks_advanced (mark_read from v) entry (h.queued entry here) (marks_read from v same (may entry here) left)
 
   -- as marking begins, if the snapshot's roots and slots of g have the property
   module _ (roots : (n : Name) → IsRoot S n → P n) (slots : (n : Name) → RefersTo S shared_name n → P n) where
@@ -147,8 +150,8 @@ module _ (S : World) (P : Name → Type 0) where
         subst (λ (t : MutatorState). All (Names IfThere) t.queue) (get_or_from_slice_get S.mutators p.0 m no_mutator p.1) (queues_there p.0)))
         (all_from_contains IfThere (strong_fields S.shared) (λ n c there. slots n (S.shared, refl, c))))
 
-    pub marks_opening : HaveMarked (opening S)
-    marks_opening = marks_values (first_state S) (root_values S) refl roots_there (record {
+    pub marks_opening : HaveMarked (opening_in newest_first S)
+    marks_opening = marks_values (first_state newest_first S) (root_values S) refl roots_there (record {
       shared = contains_head shared_name [];
       each = λ n c. subst P (one_is shared_name n c) (roots shared_name (inl refl));
       queued = λ entry c is. nothing_in entry c;

@@ -1,5 +1,5 @@
 -- The machine goes on after a round, and has pushed the mutators' remembered entries.
-use Rattle.nmgc_collector_laws.proofs.Vocabulary.{◌≡◌, ◌<◌, ℕ, Bool, true, false, List, [], ◌++◌, map, sym, ap, subst, ◌∙◌, arith, append-nil, Some, slice_get, Contains, filter, slice_get_within, Name, World, Row, nursery_place, Event, Facts, is_pushed_in, Runs, State, names_of, opening, facts_kept, snapshot_theorem, map_item, event_of, rows_in, Opening, Part, Seen, marks_of, now, Owes, AreOwed, CanOpen, IsFinished, places_then, Mutator, remembered_of, all_pushed, Done, HaveWorked, own_part, parts_are, slice_at, item, item_found, AreRemembered, IsCoreOf, Cycle, IsMachineAtRest, with_rows, HaveOwed, SlicesAreOwed, GoesOn, MachineGoesOn, runs_then, each_empty}
+use Rattle.nmgc_collector_laws.proofs.Vocabulary.{◌≡◌, ◌<◌, ℕ, Bool, true, false, List, [], ◌++◌, map, sym, ap, subst, ◌∙◌, arith, append-nil, Some, slice_get, Contains, filter, slice_get_within, Name, World, Row, nursery_place, Event, Facts, is_pushed_in, Runs, State, names_of, newest_first, opening_in, facts_kept, snapshot_theorem, map_item, event_of, rows_in, Opening, Part, Seen, marks_of, now, Owes, AreOwed, CanOpen, IsFinished, places_then, Mutator, remembered_of, all_pushed, Done, HaveWorked, own_part, parts_are, slice_at, item, item_found, AreRemembered, IsCoreOf, Cycle, IsMachineAtRest, with_rows, HaveOwed, SlicesAreOwed, GoesOn, MachineGoesOn, runs_then, each_empty}
 use Rattle.nmgc_round.specs.Objects.{IsIn}
 use Rattle.nmgc_collector_laws.proofs.{cycles.Going.Leaves, cycles.Going.round_runs, cycles.Going.leaves_round, cycles.Pushing.AllPushed, cycles.Pushing.push_all, cycles.Remembering.all_found, cycles.Remembering.pushed_low, cycles.Seats.parts_gathered}
 use Rattle.nmgc_snapshot_laws.specs.laws.MarkedOnce.{marked_runs}
@@ -34,18 +34,18 @@ module _ (c : Cycle) (o : Opening) (before words : List ℕ) (v : Seen) (mutator
   left : Leaves o.core then
   left = leaves_round o.core h.events
 
-  runs : Runs (opening c.snapshot) events rows then
-  runs = runs_then (opening c.snapshot) o.core then rest.machine.events (map event_of h.events) c.rows (rows_in h.events) rest.machine.runs
+  runs : Runs (opening_in newest_first c.snapshot) events rows then
+  runs = runs_then (opening_in newest_first c.snapshot) o.core then rest.machine.events (map event_of h.events) c.rows (rows_in h.events) rest.machine.runs
       (round_runs o.core h.events h.legal)
 
   running : then.is_closed ≡ false
   running = left.is_closed ∙ rest.machine.open_yet
 
   facts : Facts then
-  facts = facts_kept c.snapshot rest.sound.world events rows then runs running
+  facts = facts_kept newest_first c.snapshot rest.sound.world events rows then runs running
 
   snapshot_is : then.snapshot ≡ c.snapshot
-  snapshot_is = ((snapshot_theorem c.snapshot rest.sound.world events rows then runs).before running).snapshot
+  snapshot_is = ((snapshot_theorem newest_first c.snapshot rest.sound.world events rows then runs).before running).snapshot
 
   -- and after the pushes
   all : (t : State) × AllPushed then t
@@ -57,7 +57,7 @@ module _ (c : Cycle) (o : Opening) (before words : List ℕ) (v : Seen) (mutator
   machine : IsCoreOf (with_rows c (rows_in h.events)) then.world core
   machine = record {
     events = events ++ all.1.events;
-    runs = rw (append-nil rows) at (runs_then (opening c.snapshot) then core events all.1.events rows [] runs all.1.runs);
+    runs = rw (append-nil rows) at (runs_then (opening_in newest_first c.snapshot) then core events all.1.events rows [] runs all.1.runs);
     open_yet = ap (λ (x : State). x.is_closed) all.1.rest ∙ running;
     world_is = ap (λ (x : State). x.world) all.1.rest;
     nothing_owed = all.1.none;

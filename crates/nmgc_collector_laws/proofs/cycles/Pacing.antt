@@ -1,5 +1,5 @@
 -- The bounds of a closing, by the pace of marking.
-use Rattle.nmgc_collector_laws.proofs.{Vocabulary.◌≡◌, Vocabulary.◌+◌, Vocabulary.ℕ, Vocabulary.List, Vocabulary.[], Vocabulary.◌∷◌, Vocabulary.length, Vocabulary.map, Vocabulary.refl, Vocabulary.sym, Vocabulary.ap, Vocabulary.◌∙◌, Vocabulary.arith, Vocabulary.inl, Vocabulary.inr, Vocabulary.cases_lt, Vocabulary.Name, Vocabulary.shared_name, Vocabulary.contains_head, Vocabulary.Entry, Vocabulary.opening, Vocabulary.Place, Vocabulary.IsStrongObject, Vocabulary.Counts, Vocabulary.AreAt, Vocabulary.one_more, Vocabulary.within_rounds, Vocabulary.others_counted, Vocabulary.IsOnce, Vocabulary.once_runs, Vocabulary.once_opening, Vocabulary.ClosingIsSoon, Vocabulary.ClosingComes, Vocabulary.ClosingIsPaced, cycles.Strong.IsExactlyStrong, cycles.Strong.Strong, cycles.Strong.exactly_strong}
+use Rattle.nmgc_collector_laws.proofs.{Vocabulary.◌≡◌, Vocabulary.◌+◌, Vocabulary.ℕ, Vocabulary.List, Vocabulary.[], Vocabulary.◌∷◌, Vocabulary.length, Vocabulary.map, Vocabulary.refl, Vocabulary.sym, Vocabulary.ap, Vocabulary.◌∙◌, Vocabulary.arith, Vocabulary.inl, Vocabulary.inr, Vocabulary.cases_lt, Vocabulary.Name, Vocabulary.shared_name, Vocabulary.contains_head, Vocabulary.Entry, Vocabulary.newest_first, Vocabulary.opening_in, Vocabulary.Place, Vocabulary.IsStrongObject, Vocabulary.Counts, Vocabulary.AreAt, Vocabulary.one_more, Vocabulary.within_rounds, Vocabulary.others_counted, Vocabulary.IsOnce, Vocabulary.once_runs, Vocabulary.once_opening, Vocabulary.ClosingIsSoon, Vocabulary.ClosingComes, Vocabulary.ClosingIsPaced, cycles.Strong.IsExactlyStrong, cycles.Strong.Strong, cycles.Strong.exactly_strong}
 use Rattle.nmgc_collector_laws.proofs.Vocabulary.{◌≤◌, ◌-◌, ◌*◌, true, false, subst, Contains, IsWorld, IsRoot, World, Event, Runs, Core, IsAhead, queued, IsSome, node_of, contains_tail, nothing_in, facts_kept, snapshot_theorem, Cycle}
 use Rattle.nmgc_world_spec.specs.Reach.{AreDistinct, HoldsThroughout}
 use Rattle.nmgc_lists.specs.laws.Items.{contains_cases}
@@ -29,18 +29,18 @@ not_ahead core name i empty here (unmarked k) = k here
 not_ahead core name i empty here (queued entry k is le) = nothing_in entry (subst (λ (l : List Entry). Contains l entry) empty k)
 
 -- if nothing waits, all that is steady is marked
-steady_marked : (c : Cycle) → IsWorld c.snapshot → (es : List Event) (core : Core) → Runs (opening c.snapshot) es c.rows core → core.is_closed ≡ false →
+steady_marked : (c : Cycle) → IsWorld c.snapshot → (es : List Event) (core : Core) → Runs (opening_in newest_first c.snapshot) es c.rows core → core.is_closed ≡ false →
     core.queue ≡ [] → ((n : Name) → Contains (owed_before c.snapshot c.earlier) n → IsSome (node_of c.snapshot n) → Contains core.marked n) →
     (n : Name) → IsMet HoldsThroughout c n → Contains core.marked n
 steady_marked c is es core runs running empty handed n (IsMet.root _ r) =
-    let same : core.snapshot ≡ c.snapshot = ((snapshot_theorem c.snapshot is es c.rows core runs).before running).snapshot in
-    (facts_kept c.snapshot is es c.rows core runs running).roots n (subst (λ (w : World). IsRoot w n) (sym same) r)
+    let same : core.snapshot ≡ c.snapshot = ((snapshot_theorem newest_first c.snapshot is es c.rows core runs).before running).snapshot in
+    (facts_kept newest_first c.snapshot is es c.rows core runs running).roots n (subst (λ (w : World). IsRoot w n) (sym same) r)
 steady_marked c is es core runs running empty handed n (IsMet.handed _ k there) = handed n k there
 steady_marked c is es core runs running empty handed n (IsMet.slot _ r) =
-    marked_runs (opening c.snapshot) es c.rows core runs running n (slot_marked c.snapshot is n r)
+    marked_runs (opening_in newest_first c.snapshot) es c.rows core runs running n (slot_marked newest_first c.snapshot is n r)
 steady_marked c is es core runs running empty handed n (IsMet.field from _ i steady other holds there) =
     let here : Contains core.marked from = steady_marked c is es core runs running empty handed from steady in
-    elim (field_read from i n c.snapshot is es c.rows core runs running holds) [
+    elim (field_read from i n newest_first c.snapshot is es c.rows core runs running holds) [
       | inl k ↦ k
       | inr ahead ↦ absurd (not_ahead core from i empty here ahead)
     ]
@@ -84,7 +84,7 @@ waiting_is_paced quota c t seen after paced more =
 pub marks_found : (c : Cycle) (w : World) (core : Core) → IsCoreOf c w core → ((n : Name) → Contains core.marked n → IsMet HoldsOnce c n) →
     (marker : MarkerSeen) → marker.marked + 1 ≡ length core.marked → HasFound c marker
 marks_found c w core m met marker counted count less =
-    let o : IsOnce core = once_runs (opening c.snapshot) m.events c.rows core m.runs m.open_yet (once_opening c.snapshot) in
+    let o : IsOnce core = once_runs (opening_in newest_first c.snapshot) m.events c.rows core m.runs m.open_yet (once_opening newest_first c.snapshot) in
     let long = other_count core o in (
       o.others,
       (once_others core o).1,
@@ -98,7 +98,7 @@ closing_is_paced quota c t seen allocation places core sound m tied after paced 
   steady = λ names once all.
       let queue : seen.marker.queue ≡ [] = (paced.empty).0 empty in
       let waits : core.queue ≡ [] = none_waits places core.queue (rw queue at tied.queue) in
-      let o : IsOnce core = once_runs (opening c.snapshot) m.events c.rows core m.runs m.open_yet (once_opening c.snapshot) in
+      let o : IsOnce core = once_runs (opening_in newest_first c.snapshot) m.events c.rows core m.runs m.open_yet (once_opening newest_first c.snapshot) in
       let few : length names ≤ length o.others = no_more names o.others once (λ n k.
       among_others core o n (all n k).1 (steady_marked c sound.world m.events core m.runs m.open_yet waits m.handed n (all n k).0)) in
       let long = other_count core o in
@@ -110,7 +110,7 @@ closing_is_paced quota c t seen allocation places core sound m tied after paced 
       let queue : seen.marker.queue ≡ [] = (paced.empty).0 empty in
       let waits : core.queue ≡ [] = none_waits places core.queue (rw queue at tied.queue) in
       let e : IsExactlyStrong c.snapshot sound.world core = exactly_strong c.snapshot sound.world m.events c.rows core m.runs m.open_yet none waits in
-      let o : IsOnce core = once_runs (opening c.snapshot) m.events c.rows core m.runs m.open_yet (once_opening c.snapshot) in
+      let o : IsOnce core = once_runs (opening_in newest_first c.snapshot) m.events c.rows core m.runs m.open_yet (once_opening newest_first c.snapshot) in
       let long : length core.marked ≡ length o.others + 1 = ap (λ (l : List Name). length l) o.marked_are ∙ (omega arith) in
       let counted = tied.count in
       let all : Counts (IsStrongObject c.snapshot) (length o.others) =

@@ -54,6 +54,7 @@ module _ (layout : Layout) (c : Cycle) (s : State) (seen : CollectorSeen) (mutat
         };
         shared = t.shared;
         marks = t.marks;
+        order = t.order;
         queue = t.queue;
         count = t.count;
       }

@@ -1,5 +1,5 @@
 -- A machine reached from its snapshot: the names that it still uses, and the later nodes of the snapshot's names.
-use Rattle.nmgc_collector_laws.proofs.Vocabulary.{◌≡◌, List, [], ◌∷◌, refl, sym, ap, subst, ◌∙◌, inl, inr, Option, Some, None, IsSome, All, Contains, All-contains, Contains-append_cases, Node, Con, Var, Arr, Thunk, Weak, Stack, Parts, Name, Value, World, IsWorld, node_of, state_of, next_name, step, Row, opened, opened_by, IsLive, IsReached, root, further, plain_key, live_key, step_grows, contains_head, nothing_in, one_is, not_shared, free_if, CanReplay, CountsNew, HoldsOnly, IsSound, IsWide, absent, opened_has, step_holds_only, weaks_held, next_is_new, OfOld, rows_hold, wide_or_new_holds, step_keeps_world, Entry, Facts, State, live_there, facts_kept, snapshot_theorem, AreEarlier, IsEarlier, IsTracked, held_tracked, past_tracked, free_of, IsLater, interval_of, Cycle, IsCoreOf, IsUnread, rows_keep_headers, IsMachineAtRest, of_kept}
+use Rattle.nmgc_collector_laws.proofs.Vocabulary.{◌≡◌, List, [], ◌∷◌, refl, sym, ap, subst, ◌∙◌, inl, inr, Option, Some, None, IsSome, All, Contains, All-contains, Contains-append_cases, Node, Con, Var, Arr, Thunk, Weak, Stack, Parts, Name, Value, World, IsWorld, node_of, state_of, next_name, step, Row, opened, opened_by, IsLive, IsReached, root, further, plain_key, live_key, step_grows, contains_head, nothing_in, one_is, not_shared, free_if, CanReplay, CountsNew, HoldsOnly, IsSound, IsWide, absent, opened_has, step_holds_only, weaks_held, next_is_new, OfOld, rows_hold, wide_or_new_holds, step_keeps_world, Entry, Facts, State, live_there, facts_kept, snapshot_theorem, AreEarlier, IsEarlier, IsTracked, held_tracked, past_tracked, free_of, IsLater, interval_of, Cycle, IsCoreOf, IsUnread, rows_keep_headers, IsMachineAtRest, of_kept, newest_first}
 use Rattle.nmgc_snapshot_laws.specs.Run.{IsMarking}
 
 -- live names are in the wide reach, if the opened names are
@@ -41,8 +41,8 @@ pub reached_core : (c : Cycle) (w : World) (core : State) → IsSound (interval_
 reached_core c w core sound m = record {
   world = sound.world;
   can = sound.rows;
-  facts = facts_kept c.snapshot sound.world m.events c.rows core m.runs m.open_yet;
-  marking = (snapshot_theorem c.snapshot sound.world m.events c.rows core m.runs).before m.open_yet;
+  facts = facts_kept newest_first c.snapshot sound.world m.events c.rows core m.runs m.open_yet;
+  marking = (snapshot_theorem newest_first c.snapshot sound.world m.events c.rows core m.runs).before m.open_yet;
 }
 
 pub reached_by : (c : Cycle) (w : World) (core : State) → IsMachineAtRest c w core → IsReachedBy c.snapshot c.rows core

@@ -1,5 +1,5 @@
 -- A promotion keeps the tie: moved objects are new, and so in no snapshot, whose blocks keep their marks and addresses.
-use Rattle.nmgc_collector_laws.proofs.Vocabulary.{◌≡◌, ◌≢◌, ◌⊎◌, ◌<◌, ◌≤◌, ℕ, List, [], ◌∷◌, length, map, sym, ap, subst, ◌∙◌, arith, inl, inr, Some, None, slice_index, IsSome, Contains, cases_eq, Name, World, IsWorld, node_of, contains_head, contains_tail, is_some_of, contains_one, map_contains, Layout, nursery_place, absent, IsEpoch, Segment, InUse, InSnapshot, IsMarked, mark_of, Free, Entry, Facts, Core, live_there, facts_kept, snapshot_theorem, nth, Segments, HasNumber, AllocState, LiesIn, IsIn, cells, name_in, IsSnapshotAt, IsMarkedAt, Carries, Within, carried_at, snapshot_within, marked_within, free_empty, free_or_not, stands_sound, Place, Moved, old_place, settled_stays, Stopped, young_base, AreAt, AreRemembered, IsCoreOf, IsRightSnapshot, AreMarked, IsTied, HasRoomToMark, MarkerSeen, Cycle, HasPromoted, places_after, epoch_is_epoch, lies_within}
+use Rattle.nmgc_collector_laws.proofs.Vocabulary.{◌≡◌, ◌≢◌, ◌⊎◌, ◌<◌, ◌≤◌, ℕ, List, [], ◌∷◌, length, map, sym, ap, subst, ◌∙◌, arith, inl, inr, Some, None, slice_index, IsSome, Contains, cases_eq, Name, World, IsWorld, node_of, contains_head, contains_tail, is_some_of, contains_one, map_contains, Layout, nursery_place, absent, IsEpoch, Segment, InUse, InSnapshot, IsMarked, mark_of, Free, Entry, Facts, Core, live_there, facts_kept, snapshot_theorem, nth, Segments, HasNumber, AllocState, LiesIn, IsIn, cells, name_in, IsSnapshotAt, IsMarkedAt, Carries, Within, carried_at, snapshot_within, marked_within, free_empty, free_or_not, stands_sound, Place, Moved, old_place, settled_stays, Stopped, young_base, AreAt, AreRemembered, IsCoreOf, IsRightSnapshot, AreMarked, IsTied, HasRoomToMark, MarkerSeen, Cycle, HasPromoted, places_after, epoch_is_epoch, lies_within, newest_first}
 use Rattle.nmgc_collector_laws.proofs.{cycles.Beginning.epoch_is_some, cycles.Placing.Stay, cycles.Placing.each_stay}
 
 -- places of names in a list that has them too
@@ -60,7 +60,7 @@ module _ (c : Cycle) (t : Stopped) (s new : Segments) (words after registers : L
 
   marked_there : (n : Name) → Contains core.marked n → IsSome (node_of c.snapshot n)
   marked_there n d = live_there c.snapshot core.opened world n
-      (((snapshot_theorem c.snapshot world machine.events c.rows core machine.runs).before machine.open_yet).live n d)
+      (((snapshot_theorem newest_first c.snapshot world machine.events c.rows core machine.runs).before machine.open_yet).live n d)
 
   same_size : length new.segments ≡ length s.segments
   same_size = h.sound_after.count ∙ ap (λ (l : Layout). l.segments) h.layout_is ∙ sym h.sound.count
@@ -114,7 +114,7 @@ module _ (c : Cycle) (t : Stopped) (s new : Segments) (words after registers : L
 
   -- entries that wait are of the snapshot, so they lie below the nurseries
   facts : Facts core
-  facts = facts_kept c.snapshot world machine.events c.rows core machine.runs machine.open_yet
+  facts = facts_kept newest_first c.snapshot world machine.events c.rows core machine.runs machine.open_yet
 
   waits_there : (n : Name) → Contains (map (λ (entry : Entry). entry.name) core.queue) n → IsSome (node_of c.snapshot n)
   waits_there n d =
@@ -127,7 +127,15 @@ module _ (c : Cycle) (t : Stopped) (s new : Segments) (words after registers : L
       subst (λ n. p.at < n) (sym base_is) low)) tied.queue
 
   tie_stays : IsTied c placed new (places_after new moves t) marker core
-  tie_stays = record { epoch = tied.epoch; snapshot = right_snapshot; marks = are_marked; queue = queue_stays; fresh = tied.fresh; count = tied.count }
+  tie_stays = record {
+    epoch = tied.epoch;
+    snapshot = right_snapshot;
+    marks = are_marked;
+    order = tied.order;
+    queue = queue_stays;
+    fresh = tied.fresh;
+    count = tied.count;
+  }
 
   -- a segment in use keeps its class
   class_stays : (number : ℕ) → HasNumber s number → (nth s.segments number).state ≢ Free → (nth new.segments number).class ≡ (nth s.segments number).class

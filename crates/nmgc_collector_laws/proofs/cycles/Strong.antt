@@ -1,6 +1,6 @@
 -- Only names that strong fields of the snapshot reach from its roots, or from opened names, are marked. If no command owes
 -- anything, exactly the names that they reach from the roots are marked.
-use Rattle.nmgc_collector_laws.proofs.Vocabulary.{◌≡◌, ◌<◌, ℕ, true, false, List, [], ◌∷◌, ◌++◌, length, refl, sym, ap, subst, ◌∙◌, arith, inl, inr, Option, Some, None, IsSome, IfSome, All, Contains, All-contains, Command, Reply, Node, Name, World, IsWorld, node_of, state_of, CanApply, next_name, shared_name, step, Row, IsReached, IsRoot, RefersTo, strong_fields, at_some, nothing_in, not_shared, Names, Fields, CoversReach, owed_by, field_at_place, some_of, all_moves, opened_owed, Entry, Event, Facts, IsSafe, IsAhead, marked, owed, queued, Passes, after_scan, Runs, read_at, State, names_of, opening, next_absent, all_from_contains, each_names, stands, event_keeps_facts, opening_has_facts, opening_world, snapshot_theorem, world_scanned, owed_along, none_at_first, not}
+use Rattle.nmgc_collector_laws.proofs.Vocabulary.{◌≡◌, ◌<◌, ℕ, true, false, List, [], ◌∷◌, ◌++◌, length, refl, sym, ap, subst, ◌∙◌, arith, inl, inr, Option, Some, None, IsSome, IfSome, All, Contains, All-contains, Command, Reply, Node, Name, World, IsWorld, node_of, state_of, CanApply, next_name, shared_name, step, Row, IsReached, IsRoot, RefersTo, strong_fields, at_some, nothing_in, not_shared, Names, Fields, CoversReach, owed_by, field_at_place, some_of, all_moves, opened_owed, Entry, Event, Facts, IsSafe, IsAhead, marked, owed, queued, Passes, after_scan, Runs, read_at, State, names_of, newest_first, opening_in, next_absent, all_from_contains, each_names, stands, event_keeps_facts, opening_has_facts, opening_world, snapshot_theorem, world_scanned, owed_along, none_at_first, not}
 use Rattle.nmgc_world_laws.specs.{laws.Moves.RespectsBarrier}
 use Rattle.nmgc_world_spec.specs.Reach.{opened_by, values_owed}
 use Rattle.nmgc_snapshot_laws.specs.{Facts.pushed, Facts.unmarked, laws.MarkedOnce.open_before}
@@ -120,13 +120,13 @@ module _ (S : World) (is : IsWorld S) (First : Name → Type 0) (roots : (n : Na
       (ap (λ (x : State). x.snapshot) p.1 ∙ (leaves_scan s s.queue).snapshot) (subst AreStrong (sym p.1) (marks_scan S Reached s s.queue h.snapshot_is h.strong refl (strong_read s h)))
 
   -- as marking begins
-  pub reached_opening : IsReachedSo (opening S)
+  pub reached_opening : IsReachedSo (opening_in newest_first S)
   reached_opening =
-      let b : IsBegun S (opening S) = begun S in
+      let b : IsBegun S (opening_in newest_first S) = begun S in
       record {
-        facts = opening_has_facts S is;
+        facts = opening_has_facts newest_first S is;
         world = subst IsWorld (sym b.world_is) is;
-        snapshot_is = ((snapshot_theorem S is [] [] (opening S) (refl, refl)).before b.open_yet).snapshot;
+        snapshot_is = ((snapshot_theorem newest_first S is [] [] (opening_in newest_first S) (refl, refl)).before b.open_yet).snapshot;
         holds = subst (λ (w : World). CoversReach Kept w) (sym b.world_is) snapshot_holds;
         strong = marks_opening S Reached from_roots from_slots;
       }
@@ -196,9 +196,9 @@ module _ (S : World) (is : IsWorld S) where
       let bad : true ≡ false = sym on ∙ off in cc)
 
   -- as marking begins
-  strong_opening : IsStrongSo (opening S)
+  strong_opening : IsStrongSo (opening_in newest_first S)
   strong_opening =
-      let b : IsBegun S (opening S) = begun S in
+      let b : IsBegun S (opening_in newest_first S) = begun S in
       record {
         so = reached_opening S is (IsRoot S) itself;
         none_owed = λ m. ap (λ (l : List (List Name)). names_of l m) b.owed_is ∙ none_at_first (length S.mutators) m;
@@ -210,10 +210,10 @@ module _ (S : World) (is : IsWorld S) where
     pub sound : (n : Name) → Contains core.marked n → Strong n
     pub complete : (n : Name) → Strong n → Contains core.marked n
 
-  pub exactly_strong : (es : List Event) (rows : List Row) (core : State) → Runs (opening S) es rows core → core.is_closed ≡ false →
+  pub exactly_strong : (es : List Event) (rows : List Row) (core : State) → Runs (opening_in newest_first S) es rows core → core.is_closed ≡ false →
       owed_along S rows ≡ [] → core.queue ≡ [] → IsExactlyStrong core
   exactly_strong es rows core runs running none empty =
-      let so : IsStrongSo core = strong_runs (opening S) es rows core runs running (rw (opening_world S) none) strong_opening in
+      let so : IsStrongSo core = strong_runs (opening_in newest_first S) es rows core runs running (rw (opening_world newest_first S) none) strong_opening in
       record { sound = so.so.strong.each; complete = all_marked so }
     where
       all_marked : IsStrongSo core → (n : Name) → Strong n → Contains core.marked n

@@ -1,5 +1,5 @@
 -- The machine takes all pushed objects: mutator after mutator, and for each mutator one name after another.
-use Rattle.nmgc_collector_laws.proofs.Vocabulary.{eqb, eq-eqb, eqb-true, ◌≡◌, ◌≢◌, ◌+◌, ◌<◌, ◌≤◌, ℕ, suc, Bool, true, false, not, ◌&&◌, cond, List, [], ◌∷◌, ◌++◌, length, set, refl, sym, ap, subst, ◌∙◌, arith, append-nil, length-set, inl, inr, Some, Contains, slice_get, is_some, filter, flat_map, cases_eq, and_cases, not-false, Contains-append_left, Name, World, IsWorld, node_of, is_same_name, shared_name, contains_head, contains_tail, contains_cases, nothing_in, Event, Facts, AreEmpty, after_take, is_pushed_in, Runs, State, names_of, is_listed, is_new, entry_of, mark_name, opening, names_same, names_other, listed_from, tested_same, mark_cases, facts_kept, snapshot_theorem, Place, Marks, marks_of, name_at, with_name, Opening, AreAt, AreRemembered, IsCoreOf, Cycle, with_places, runs_then, marks_if}
+use Rattle.nmgc_collector_laws.proofs.Vocabulary.{eqb, eq-eqb, eqb-true, ◌≡◌, ◌≢◌, ◌+◌, ◌<◌, ◌≤◌, ℕ, suc, Bool, true, false, not, ◌&&◌, cond, List, [], ◌∷◌, ◌++◌, length, set, refl, sym, ap, subst, ◌∙◌, arith, append-nil, length-set, inl, inr, Some, Contains, slice_get, is_some, filter, flat_map, cases_eq, and_cases, not-false, Contains-append_left, Name, World, IsWorld, node_of, is_same_name, shared_name, contains_head, contains_tail, contains_cases, nothing_in, Event, Facts, AreEmpty, after_take, is_pushed_in, Runs, State, names_of, is_listed, is_new, entry_of, mark_name, newest_first, opening_in, names_same, names_other, listed_from, tested_same, mark_cases, facts_kept, snapshot_theorem, Place, Marks, marks_of, name_at, with_name, Opening, AreAt, AreRemembered, IsCoreOf, Cycle, with_places, runs_then, marks_if, joined}
 use Rattle.nmgc_snapshot_laws.specs.declared.event.Event.TheVariants as event
 use Rattle.nmgc_collector_laws.proofs.cycles.Pushing.{all_empty}
 use Rattle.nmgc_snapshot_laws.specs.laws.MarkedOnce.{marked_runs}
@@ -32,7 +32,7 @@ marks_named s name = marks_if (is_new s name) s name
 
 -- marked names stay marked
 still_if : (b : Bool) (m : Marks) (name other : Name) → Contains m.marked other →
-    Contains (cond b (record { marked = m.marked ++ name ∷ []; queue = m.queue ++ entry_of name ∷ [] }) m).marked other
+    Contains (cond b (record m { marked = m.marked ++ name ∷ []; queue = joined m.order m.queue (entry_of name) }) m).marked other
 still_if true m name other c = Contains-append_left m.marked (name ∷ []) other c
 still_if false m name other c = c
 
@@ -61,7 +61,7 @@ listed_not false listed e = refl
 uncounted : (snapshot : World) (m : Marks) (name : Name) → Contains m.marked shared_name → is_pushed_in snapshot name ≡ false →
     with_name snapshot m (Some name) ≡ m
 uncounted snapshot m name shared none =
-    let made : Marks = record { marked = m.marked ++ name ∷ []; queue = m.queue ++ entry_of name ∷ [] } in
+    let made : Marks = record m { marked = m.marked ++ name ∷ []; queue = joined m.order m.queue (entry_of name) } in
     let off : (is_some (node_of snapshot name) && not (is_listed name m.marked)) ≡ false =
     elim (and_cases (is_some (node_of snapshot name)) (not (is_same_name name shared_name)) none) [
       | inl gone ↦ not_both (is_some (node_of snapshot name)) (is_listed name m.marked) gone
@@ -242,8 +242,8 @@ pub machine_takes : (c : Cycle) (w : World) (core : State) (places : List Place)
     ((k : ℕ) (own : List ℕ) → slice_get entries k ≡ Some own → AreRemembered c places own (names_of core.pushed k)) →
     (names : List Name) × (after : State) × AreAt places (flat_map (λ (own : List ℕ). own) entries) names × HasTaken c w core names after
 machine_takes c w core places entries world m many own =
-    let facts : Facts core = facts_kept c.snapshot world m.events c.rows core m.runs m.open_yet in
-    let marking = (snapshot_theorem c.snapshot world m.events c.rows core m.runs).before m.open_yet in
+    let facts : Facts core = facts_kept newest_first c.snapshot world m.events c.rows core m.runs m.open_yet in
+    let marking = (snapshot_theorem newest_first c.snapshot world m.events c.rows core m.runs).before m.open_yet in
     let all : (t : State) × HasTakenFrom c places core t 0 entries =
     take_from c places core 0 entries marking.snapshot (facts.roots shared_name (inl refl)) m.open_yet (omega arith) (λ k x e.
     let place : k ≡ 0 + k = omega arith in subst (λ (j : ℕ). AreRemembered c places x (names_of core.pushed j)) place (own k x e)) in
@@ -256,7 +256,7 @@ machine_takes c w core places entries world m many own =
       record {
         machine = record {
           events = m.events ++ h.events;
-          runs = rw (append-nil c.rows) at (runs_then (opening c.snapshot) core t m.events h.events c.rows [] m.runs h.runs);
+          runs = rw (append-nil c.rows) at (runs_then (opening_in newest_first c.snapshot) core t m.events h.events c.rows [] m.runs h.runs);
           open_yet = h.only.is_closed ∙ m.open_yet;
           world_is = h.only.world ∙ m.world_is;
           nothing_owed = subst AreEmpty (sym h.only.owed) m.nothing_owed;

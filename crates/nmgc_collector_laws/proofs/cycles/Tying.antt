@@ -1,5 +1,5 @@
 -- A marker's tie by places and by blocks, at a stop.
-use Rattle.nmgc_collector_laws.proofs.Vocabulary.{◌≡◌, ℕ, List, [], ◌∷◌, map, true, sym, ap, subst, ◌∙◌, inl, inr, Contains, IsSome, Name, shared_name, World, node_of, IsSound, Layout, Facts, Core, snapshot_theorem, Contains-append_left, Segments, block_place, IsSegments, StandsFor, cells, Place, shared_place, MutatorEnd, Mutator, rows_in, IsFinished, places_then, marks_of, place_of, now, collecting, Opening, Seen, whole, interval_of, Cycle, HoldsAtStop, AreAt, IsCoreOf, IsTied, epoch_of, MarkerSeen, AreOfBlocks, TiesAgree, AreApart, IsTiedByPlaces, marks_seen, with_rows, GoesOn, CoreHasSnapshot, RoundBeginsTied, places_apart, core_facts}
+use Rattle.nmgc_collector_laws.proofs.Vocabulary.{◌≡◌, ℕ, List, [], ◌∷◌, map, true, sym, ap, subst, ◌∙◌, inl, inr, Contains, IsSome, Name, shared_name, World, node_of, IsSound, Layout, Facts, Core, snapshot_theorem, Contains-append_left, Segments, block_place, IsSegments, StandsFor, cells, Place, shared_place, MutatorEnd, Mutator, rows_in, IsFinished, places_then, marks_of, place_of, now, collecting, Opening, Seen, whole, interval_of, Cycle, HoldsAtStop, AreAt, IsCoreOf, IsTied, epoch_of, MarkerSeen, AreOfBlocks, TiesAgree, AreApart, IsTiedByPlaces, marks_seen, with_rows, GoesOn, CoreHasSnapshot, RoundBeginsTied, places_apart, core_facts, newest_first}
 use Rattle.nmgc_run_spec.specs.Run.{State}
 use Rattle.nmgc_collector_laws.proofs.cycles.RoundHeap.{marked_holds}
 
@@ -12,7 +12,7 @@ at_more places more (at ∷ ats) [] all h = h
 at_more places more (at ∷ ats) (name ∷ names) all h = (all (record { at = at; name = name }) h.0, at_more places more ats names all h.1)
 
 pub core_snapshot : CoreHasSnapshot
-core_snapshot c w core sound m = ((snapshot_theorem c.snapshot sound.world m.events c.rows core m.runs).before m.open_yet).snapshot
+core_snapshot c w core sound m = ((snapshot_theorem newest_first c.snapshot sound.world m.events c.rows core m.runs).before m.open_yet).snapshot
 
 -- the law of marks
 abbrev pub MarksLaw : Type 0
@@ -88,6 +88,7 @@ round_ends law agree ending layout s before after old new ends weaks c o v mutat
       epoch = t.epoch;
       snapshot = t.snapshot;
       marks = t.marks;
+      order = t.order;
       queue = at_more o.places (places_then o f.born) marker.queue _ (λ p e. Contains-append_left o.places (map place_of f.born) p e) t.queue;
       fresh = t.fresh;
       count = t.count;

@@ -1,6 +1,6 @@
 -- Lemmas that crates above need too.
 use Rattle.std.specs.Prelude.{◌≡◌, ◌+◌, ◌<◌, ◌∷◌, ◌++◌}
-use Rattle.nmgc_round.specs.laws.Vocabulary.{ℕ, zero, suc, List, [], map, length, ap, ◌∙◌, arith, refl, sym, subst, All, Bool, true, false, cond, inl, inr, Some, None, Option, slice_index_or, drop, Contains, length-replicate, eqb_tells, contains_head, contains_tail, contains_cases, Name, Reply, given, node_of, World, Value, step_grows, State, with_mark, entry_of, is_new, mark_read, Entry, advanced, after_scan, after_command, read_at, Layout, Place, Hand, Seen, Opening, Scan, DoneRow, leaves, rows_leave, Answer, plain, word, RoundSeat, seen, IsAt, alone, alones, first_opening, new_hand, Round, next_turn, passed, Marks, after_word, folded, marks_of, name_at, Answers, Happening, did, scanned, replay, IsLegal, some-injective, some-ne-none, get_elem?}
+use Rattle.nmgc_round.specs.laws.Vocabulary.{ℕ, zero, suc, List, [], map, length, ap, ◌∙◌, arith, refl, sym, subst, All, Bool, true, false, cond, inl, inr, Some, None, Option, slice_index_or, drop, Contains, length-replicate, eqb_tells, contains_head, contains_tail, contains_cases, Name, Reply, given, node_of, World, Value, step_grows, State, with_mark, entry_of, is_new, mark_read, Entry, joined, after_scan, after_command, read_at, Layout, Place, Hand, Seen, Opening, Scan, DoneRow, leaves, rows_leave, Answer, plain, word, RoundSeat, seen, IsAt, alone, alones, first_opening, new_hand, Round, next_turn, passed, Marks, after_word, folded, marks_of, name_at, Answers, Happening, did, scanned, replay, IsLegal, some-injective, some-ne-none, get_elem?}
 use Rattle.nmgc_world_spec.specs.declared.value.Value.TheVariants as value
 
 pub seat_at : (layout : Layout) (n k : ℕ) (hands : List Hand) (seats : List RoundSeat) (d : RoundSeat) →
@@ -52,7 +52,7 @@ leave_more h [] r = refl
 leave_more h (s ∷ rs) r = leave_more (leaves h s.command s.answer) rs r
 
 pub marks_if : (b : Bool) (s : State) (name : Name) → marks_of (cond b (with_mark s name) s) ≡
-    cond b (record { marked = s.marked ++ name ∷ []; queue = s.queue ++ entry_of name ∷ [] }) (marks_of s)
+    cond b (record (marks_of s) { marked = s.marked ++ name ∷ []; queue = joined s.order s.queue (entry_of name) }) (marks_of s)
 marks_if true s name = refl
 marks_if false s name = refl
 
@@ -92,17 +92,10 @@ world_read s (Some value.Nil) = refl
 world_read s (Some (value.Number n)) = refl
 world_read s (Some (value.Ref name)) = world_if (is_new s name) s name
 
-pub world_advanced : (s : State) (queue : List Entry) → (advanced s queue).world ≡ s.world
-world_advanced s [] = refl
-world_advanced s (entry ∷ rest) = refl
-
 -- a scan leaves the world
 pub world_scanned : (s : State) (queue : List Entry) → (after_scan s queue).world ≡ s.world
 world_scanned s [] = refl
-world_scanned s (entry ∷ rest) =
-    let read : Option Value = read_at (node_of s.world entry.name) entry.position in
-    let t : State = mark_read s read in
-    world_advanced t t.queue ∙ world_read s read
+world_scanned s (entry ∷ rest) = world_read (record s { queue = rest }) (read_at (node_of s.world entry.name) entry.position)
 
 -- no event changes the number of mutators
 pub same_count : (s : State) (hs : List Happening) → IsLegal s hs → length (replay s hs).world.mutators ≡ length s.world.mutators

@@ -1,6 +1,6 @@
 -- Each event of a run that isn't closed keeps an invariant: no name is marked twice, and g stays the first.
 use Rattle.std.specs.Prelude.{◌≡◌, ◌++◌, ◌∷◌}
-use Rattle.nmgc_snapshot_laws.specs.laws.Vocabulary.{ℕ, Bool, Contains, true, false, List, [], refl, sym, ap, subst, ◌∙◌, Option, Some, None, is_some, and_parts, not-true, Name, Value, Row, World, node_of, shared_name, nothing_in, Entry, Event, Passes, after_push, after_scan, after_take, advanced, Runs, read_at, State, names_of, is_listed, mark_name, mark_read, mark_values, opening, root_values, AreDistinct, distinct_push, not}
+use Rattle.nmgc_snapshot_laws.specs.laws.Vocabulary.{ℕ, Bool, Contains, true, false, List, [], refl, sym, ap, subst, ◌∙◌, Option, Some, None, is_some, and_parts, not-true, Name, Value, Row, World, node_of, shared_name, nothing_in, Entry, Event, Passes, after_push, after_scan, after_take, Runs, read_at, Order, State, names_of, is_listed, mark_name, mark_read, mark_values, opening_in, root_values, AreDistinct, distinct_push, not}
 use Rattle.nmgc_snapshot_laws.specs.{State.unmarked, laws.Listed.not_listed, laws.Marking.mark_cases, laws.Marking.still_marked}
 use Rattle.nmgc_world_spec.specs.declared.value.Value.TheVariants as value
 use Rattle.nmgc_snapshot_laws.specs.declared.event.Event.TheVariants as event
@@ -34,15 +34,9 @@ marked_read s (Some value.Nil) n c = c
 marked_read s (Some (value.Number k)) n c = c
 marked_read s (Some (value.Ref name)) n c = still_marked s name n c
 
-marked_advanced : (s : State) (queue : List Entry) (n : Name) → Contains s.marked n → Contains (advanced s queue).marked n
-marked_advanced s [] n c = c
-marked_advanced s (entry ∷ rest) n c = c
-
 pub marked_scan : (s : State) (queue : List Entry) (n : Name) → Contains s.marked n → Contains (after_scan s queue).marked n
 marked_scan s [] n c = c
-marked_scan s (entry ∷ rest) n c =
-    let t : State = mark_read s (read_at (node_of s.world entry.name) entry.position) in
-    marked_advanced t t.queue n (marked_read s (read_at (node_of s.world entry.name) entry.position) n c)
+marked_scan s (entry ∷ rest) n c = marked_read (record s { queue = rest }) (read_at (node_of s.world entry.name) entry.position) n c
 
 marked_push : (s : State) (m : ℕ) (names : List Name) (n : Name) → Contains s.marked n → Contains (after_push s m names).marked n
 marked_push s m [] n c = c
@@ -101,15 +95,10 @@ once_read s (Some (value.Ref name)) h = once_name s name h
 once_same : (s t : State) → t.marked ≡ s.marked → IsOnce s → IsOnce t
 once_same s t e h = record { others = h.others; marked_are = e ∙ h.marked_are; once = subst AreDistinct (sym e) h.once }
 
-once_advanced : (s : State) (queue : List Entry) → IsOnce s → IsOnce (advanced s queue)
-once_advanced s [] h = h
-once_advanced s (entry ∷ rest) h = once_same s (advanced s (entry ∷ rest)) refl h
-
 once_scan : (s : State) (queue : List Entry) → IsOnce s → IsOnce (after_scan s queue)
 once_scan s [] h = h
-once_scan s (entry ∷ rest) h =
-    let t : State = mark_read s (read_at (node_of s.world entry.name) entry.position) in
-    once_advanced t t.queue (once_read s (read_at (node_of s.world entry.name) entry.position) h)
+once_scan s (entry ∷ rest) h = once_same _ _ refl
+    (once_read (record s { queue = rest }) (read_at (node_of s.world entry.name) entry.position) (once_same s _ refl h))
 
 once_push : (s : State) (m : ℕ) (names : List Name) → IsOnce s → IsOnce (after_push s m names)
 once_push s m [] h = h
@@ -134,5 +123,5 @@ once_runs s (event.Close ∷ es) rows t (true, next, rest, first, is, later) run
     let on : next.is_closed ≡ true = ap (λ (x : State). x.is_closed) first.1.rest in
     absurd (let bad : true ≡ false = sym (stays_closed next es rest t later on) ∙ running in cc)
 
-pub once_opening : (w : World) → IsOnce (opening w)
-once_opening w = once_values (unmarked w) (root_values w) (record { others = []; marked_are = refl; once = (nothing_in shared_name, tt) })
+pub once_opening : (order : Order) (w : World) → IsOnce (opening_in order w)
+once_opening order w = once_values (unmarked order w) (root_values w) (record { others = []; marked_are = refl; once = (nothing_in shared_name, tt) })

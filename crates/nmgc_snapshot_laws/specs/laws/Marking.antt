@@ -1,8 +1,21 @@
 -- Marking a name keeps the facts.
-use Rattle.std.specs.Prelude.{◌≡◌, ◌≤◌, ◌∷◌, ◌++◌}
-use Rattle.nmgc_snapshot_laws.specs.laws.Vocabulary.{ℕ, [], subst, arith, true, false, not, inl, inr, IsSome, Contains, is_some, Contains-append_left, Contains-push, Contains-push_cases, cond_both, and_parts, and_cases, not-false, Name, Parts, node_of, IsRoot, IsAlive, IsKeptBy, Entry, State, is_new, is_listed, with_mark, mark_name, entry_of, name_cases, HasStrongField, MayHold, IsLiveIn, IsSafe, IsAhead, Kept, Base, Facts, owed, pushed, queued, marked, unmarked}
+use Rattle.std.specs.Prelude.{◌≡◌, ◌≤◌, ◌∷◌, ◌++◌, ◌⊎◌}
+use Rattle.nmgc_snapshot_laws.specs.laws.Vocabulary.{ℕ, List, [], subst, arith, true, false, not, inl, inr, IsSome, Contains, is_some, Contains-append_left, Contains-push, Contains-push_cases, contains_cases, contains_head, contains_tail, cond_both, and_parts, and_cases, not-false, Name, Parts, node_of, IsRoot, IsAlive, IsKeptBy, Entry, Order, oldest_first, newest_first, joined, State, is_new, is_listed, with_mark, mark_name, entry_of, name_cases, HasStrongField, MayHold, IsLiveIn, IsSafe, IsAhead, Kept, Base, Facts, owed, pushed, queued, marked, unmarked}
 use Rattle.nmgc_world_spec.specs.declared.value.Value.TheVariants as value
 use Rattle.nmgc_snapshot_laws.specs.laws.Listed.{contains_listed}
+
+-- the entries of a queue after another joined it: these and the other
+pub joined_old : (order : Order) (queue : List Entry) (entry e : Entry) → Contains queue e → Contains (joined order queue entry) e
+joined_old oldest_first queue entry e c = Contains-append_left queue (entry ∷ []) e c
+joined_old newest_first queue entry e c = contains_tail entry queue e c
+
+pub joined_new : (order : Order) (queue : List Entry) (entry : Entry) → Contains (joined order queue entry) entry
+joined_new oldest_first queue entry = Contains-push queue entry
+joined_new newest_first queue entry = contains_head entry queue
+
+pub joined_cases : (order : Order) (queue : List Entry) (entry e : Entry) → Contains (joined order queue entry) e → Contains queue e ⊎ (entry ≡ e)
+joined_cases oldest_first queue entry e c = Contains-push_cases queue entry e c
+joined_cases newest_first queue entry e c = elim (contains_cases entry queue e c) [ inl same ↦ inr same | inr old ↦ inl old ]
 
 -- a new name is marked, and any other is left
 pub mark_cases : (R : State → Type 0) (s : State) (name : Name) → (is_new s name ≡ true → R (with_mark s name)) → (is_new s name ≡ false → R s) →
@@ -26,9 +39,9 @@ still_marked s name other h = mark_cases (λ t. Contains t.marked other) s name 
 
 -- a field that is looked after stays so
 pub ahead_then : (s : State) (name n : Name) (i : ℕ) → IsAhead s n i → IsAhead (with_mark s name) n i
-ahead_then s name n i (queued entry h e le) = queued entry (Contains-append_left s.queue (entry_of name ∷ []) entry h) e le
+ahead_then s name n i (queued entry h e le) = queued entry (joined_old s.order s.queue (entry_of name) entry h) e le
 ahead_then s name n i (unmarked not) = elim (name_cases name n) [
-  | inl e ↦ queued (entry_of name) (Contains-push s.queue (entry_of name)) e (omega arith)
+  | inl e ↦ queued (entry_of name) (joined_new s.order s.queue (entry_of name)) e (omega arith)
   | inr ne ↦ unmarked (λ h. elim (Contains-push_cases s.marked name n h) [ inl old ↦ not old | inr e ↦ ne e ])
 ]
 
@@ -61,11 +74,11 @@ mark_base s name b may = mark_cases Base s name (λ e. record {
     | inl old ↦ b.live n old
     | inr same ↦ subst (IsLiveIn s) same (may (new_there s name e))
   ];
-  queued = λ entry h. elim (Contains-push_cases s.queue (entry_of name) entry h) [
+  queued = λ entry h. elim (joined_cases s.order s.queue (entry_of name) entry h) [
     | inl old ↦ Contains-append_left s.marked (name ∷ []) entry.name (b.queued entry old)
     | inr same ↦ subst (λ (x : Entry). Contains (s.marked ++ name ∷ []) x.name) same (Contains-push s.marked name)
   ];
-  passed = λ entry h. elim (Contains-push_cases s.queue (entry_of name) entry h) [
+  passed = λ entry h. elim (joined_cases s.order s.queue (entry_of name) entry h) [
     | inl old ↦ b.passed entry old
     | inr same ↦ inl (subst (λ (x : Entry). x.position ≤ 1) same (omega arith))
   ];

@@ -1,6 +1,6 @@
 -- The facts hold at the opening: the mutators hold live names, and every root is marked.
 use Rattle.std.specs.Prelude.{◌≡◌, ◌<◌, ◌∷◌, ◌++◌, ◌⊎◌}
-use Rattle.nmgc_snapshot_laws.specs.laws.Vocabulary.{ℕ, List, [], same_Some, RefersTo, zero, suc, length, replicate, refl, sym, subst, ◌∙◌, arith, Option, Some, None, inl, inr, IsSome, IfSome, All, Contains, flat_map, slice_get, length-replicate, get_or_past, All-head, All-tail, All-nil, All-append, Contains-append_left, Contains-append_right, Contains-append_cases, Contains-get_or, cases_lt, Name, Value, Node, MutatorState, World, state_of, node_of, no_mutator, IsWorld, shared_name, IsRoot, root, field, strong_fields, State, names_of, mark_name, mark_values, root_values, opening, get_or_from_slice_get, nothing_in, one_is, contains_one, contains_flat, place_of, contains_cases, contains_head, contains_tail, name_cases, same_later, Fields, Names, HasStrongField, MayHold, IsLiveIn, Kept, Base, Facts, marked}
+use Rattle.nmgc_snapshot_laws.specs.laws.Vocabulary.{ℕ, List, [], same_Some, RefersTo, zero, suc, length, replicate, refl, sym, subst, ◌∙◌, arith, Option, Some, None, inl, inr, IsSome, IfSome, All, Contains, flat_map, slice_get, length-replicate, get_or_past, All-head, All-tail, All-nil, All-append, Contains-append_left, Contains-append_right, Contains-append_cases, Contains-get_or, cases_lt, Name, Value, Node, MutatorState, World, state_of, node_of, no_mutator, IsWorld, shared_name, IsRoot, root, field, strong_fields, Order, State, names_of, mark_name, mark_values, root_values, opening_in, get_or_from_slice_get, nothing_in, one_is, contains_one, contains_flat, place_of, contains_cases, contains_head, contains_tail, name_cases, same_later, Fields, Names, HasStrongField, MayHold, IsLiveIn, Kept, Base, Facts, marked}
 use Rattle.nmgc_snapshot_laws.specs.{State.unmarked, laws.Listed.all_from_contains, laws.Lives.target_there, laws.Lives.refers, laws.Lives.root_there, laws.Marking.mark_cases, laws.Marking.mark_base, laws.Marking.marked_then, laws.Marking.still_marked, laws.Marking.kept_then}
 use Rattle.nmgc_world_spec.specs.declared.value.Value.TheVariants as value
 use Rattle.nmgc_snapshot_laws.specs.Facts as facts
@@ -10,9 +10,9 @@ no_names zero m = refl
 no_names (suc n) zero = refl
 no_names (suc n) (suc m) = no_names n m
 
-module _ (w : World) (h : IsWorld w) where
+module _ (order : Order) (w : World) (h : IsWorld w) where
   abbrev start : State
-  start = unmarked w
+  start = unmarked order w
 
   of_fields : (node : Node) (name : Name) → MayHold start name → node_of w name ≡ Some node → Fields (Names (MayHold start)) node
   of_fields node name may is = all_from_contains (MayHold start) (strong_fields node) (λ target c there.
@@ -107,7 +107,7 @@ values_kept s (value.Nil ∷ values) n i target k = values_kept s values n i tar
 values_kept s (value.Number m ∷ values) n i target k = values_kept s values n i target k
 values_kept s (value.Ref name ∷ values) n i target k = values_kept (mark_name s name) values n i target (kept_then s name n i target k)
 
-module _ (w : World) (h : IsWorld w) where
+module _ (order : Order) (w : World) (h : IsWorld w) where
   -- a mutator's values are among the roots' values
   state_there : (k : ℕ) → (k < length w.mutators) ⊎ (state_of w k ≡ no_mutator)
   state_there k = elim (cases_lt k (length w.mutators)) [ inl lt ↦ inl lt | inr le ↦ inr (get_or_past w.mutators k no_mutator le) ]
@@ -139,10 +139,10 @@ module _ (w : World) (h : IsWorld w) where
   each_flat P f (s ∷ states) g = All-append (Names P) (f s) (flat_map f states) (g s (contains_head s states)) (each_flat P f states (λ t c.
       g t (contains_tail s states t c)))
 
-  roots_held : All (Names (MayHold (unmarked w))) (root_values w)
+  roots_held : All (Names (MayHold (unmarked order w))) (root_values w)
   roots_held =
-      let P : Name → Type 0 = MayHold (unmarked w) in
-      let b : Base (unmarked w) = start_base w h in
+      let P : Name → Type 0 = MayHold (unmarked order w) in
+      let b : Base (unmarked order w) = start_base order w h in
       All-append (Names P) (flat_map (λ (s : MutatorState). s.registers) w.mutators) _
       (each_flat P (λ (s : MutatorState). s.registers) w.mutators (λ s c.
       let p : (i : ℕ) × (slice_get w.mutators i ≡ Some s) = place_of w.mutators s c in
@@ -151,35 +151,35 @@ module _ (w : World) (h : IsWorld w) where
       (each_flat P (λ (s : MutatorState). s.queue) w.mutators (λ s c.
       let p : (i : ℕ) × (slice_get w.mutators i ≡ Some s) = place_of w.mutators s c in
       subst (λ (t : MutatorState). All (Names P) t.queue) (get_or_from_slice_get w.mutators p.0 s no_mutator p.1) (b.holds.queues p.0)))
-      (of_fields w h w.shared shared_name (λ there. root shared_name (inl refl)) refl))
+      (of_fields order w h w.shared shared_name (λ there. root shared_name (inl refl)) refl))
 
-  root_marked : (name : Name) → IsRoot w name → Contains (opening w).marked name
+  root_marked : (name : Name) → IsRoot w name → Contains (opening_in order w).marked name
   root_marked name r = elim (held_is_root name r) [
-    | inl g ↦ values_still (unmarked w) (root_values w) name (subst (λ (n : Name). Contains (shared_name ∷ []) n) (sym g) (contains_one shared_name))
-    | inr c ↦ values_marked (unmarked w) (root_values w) name (root_there w h name r) c
+    | inl g ↦ values_still (unmarked order w) (root_values w) name (subst (λ (n : Name). Contains (shared_name ∷ []) n) (sym g) (contains_one shared_name))
+    | inr c ↦ values_marked (unmarked order w) (root_values w) name (root_there w h name r) c
   ]
 
   -- the targets of g's slots are marked
-  pub slot_marked : (target : Name) → RefersTo w shared_name target → Contains (opening w).marked target
+  pub slot_marked : (target : Name) → RefersTo w shared_name target → Contains (opening_in order w).marked target
   slot_marked target (node, is, c) =
       let same : node ≡ w.shared = same_Some node w.shared (sym is) in
-      values_marked (unmarked w) (root_values w) target (target_there w h shared_name target (node, is, c))
+      values_marked (unmarked order w) (root_values w) target (target_there w h shared_name target (node, is, c))
       (slot_is_root (value.Ref target) (subst (λ (a : Node). Contains (strong_fields a) (value.Ref target)) same c))
 
-  open_kept : (n : Name) (i : ℕ) (target : Name) → HasStrongField w n i (value.Ref target) → Kept (opening w) n i target
+  open_kept : (n : Name) (i : ℕ) (target : Name) → HasStrongField w n i (value.Ref target) → Kept (opening_in order w) n i target
   open_kept n i target st = elim (name_cases n shared_name) [
     | inl g ↦ inl (marked (slot_marked target (subst (λ (a : Name). RefersTo w a target) g (refers w n target i st))))
-    | inr ne ↦ values_kept (unmarked w) (root_values w) n i target (inr (st, facts.unmarked (λ c. ne (sym (one_is shared_name n c)))))
+    | inr ne ↦ values_kept (unmarked order w) (root_values w) n i target (inr (st, facts.unmarked (λ c. ne (sym (one_is shared_name n c)))))
   ]
 
-  pub opening_facts : Facts (opening w)
+  pub opening_facts : Facts (opening_in order w)
   opening_facts =
-      let e : (opening w).snapshot ≡ w = values_snapshot (unmarked w) (root_values w) in
+      let e : (opening_in order w).snapshot ≡ w = values_snapshot (unmarked order w) (root_values w) in
       record {
-        base = values_base (unmarked w) (root_values w) (start_base w h) roots_held;
+        base = values_base (unmarked order w) (root_values w) (start_base order w h) roots_held;
         roots = λ name r. root_marked name (subst (λ (v : World). IsRoot v name) e r);
         kept = λ n i target st. open_kept n i target (subst (λ (v : World). HasStrongField v n i (value.Ref target)) e st);
-        opened = λ name c there. absurd (nothing_in name (rw (values_lists (unmarked w) (root_values w)).0 at c));
-        ended = λ weak c there. absurd (nothing_in weak (rw (values_lists (unmarked w) (root_values w)).1 at c));
-        finalised = λ weak target parts c alive kept. absurd (nothing_in weak (rw (values_lists (unmarked w) (root_values w)).1 at c));
+        opened = λ name c there. absurd (nothing_in name (rw (values_lists (unmarked order w) (root_values w)).0 at c));
+        ended = λ weak c there. absurd (nothing_in weak (rw (values_lists (unmarked order w) (root_values w)).1 at c));
+        finalised = λ weak target parts c alive kept. absurd (nothing_in weak (rw (values_lists (unmarked order w) (root_values w)).1 at c));
       }

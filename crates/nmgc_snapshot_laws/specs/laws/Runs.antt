@@ -1,6 +1,6 @@
 -- A run keeps the snapshot theorem, event by event.
 use Rattle.std.specs.Prelude.{◌≡◌, ◌∷◌, ◌++◌}
-use Rattle.nmgc_snapshot_laws.specs.laws.Vocabulary.{ℕ, List, [], refl, sym, ap, subst, ◌∙◌, append-nil, append_assoc, Option, Some, None, Bool, true, false, Contains, Name, Value, Command, Reply, World, node_of, IsWorld, CanApply, step, Row, replayed, IsLegal, opened, finalised, opened_by, finalised_by, IsLive, IsDead, IsKept, Lists, closed, Entry, Event, State, names_of, opening, mark_name, mark_read, mark_values, root_values, IsPossible, Passes, AreEmpty, after_command, after_push, after_scan, after_take, advanced, read_at, IsClosing, row_of, rows_if, Runs, IsMarking, IsExact, SnapshotTheorem, FactsAreKept, OpeningHasFacts, EventKeepsFacts, ClosingIsExact, Facts, step_keeps_world}
+use Rattle.nmgc_snapshot_laws.specs.laws.Vocabulary.{ℕ, List, [], refl, sym, ap, subst, ◌∙◌, append-nil, append_assoc, Option, Some, None, Bool, true, false, Contains, Name, Value, Command, Reply, World, node_of, IsWorld, CanApply, step, Row, replayed, IsLegal, opened, finalised, opened_by, finalised_by, IsLive, IsDead, IsKept, Lists, closed, Entry, Event, Order, State, names_of, opening_in, mark_name, mark_read, mark_values, root_values, IsPossible, Passes, AreEmpty, after_command, after_push, after_scan, after_take, read_at, IsClosing, row_of, rows_if, Runs, IsMarking, IsExact, SnapshotTheorem, FactsAreKept, OpeningHasFacts, EventKeepsFacts, ClosingIsExact, Facts, step_keeps_world}
 use Rattle.nmgc_snapshot_laws.specs.{State.unmarked, laws.Marking.mark_cases, laws.Commands.command_facts, laws.Scans.scan_facts, laws.Handing.push_facts, laws.Handing.take_facts, laws.Openings.opening_facts, laws.Ending.live_first, laws.Ending.first_live, laws.Ending.dying_lists, laws.Ending.last_kept, laws.Ending.kept_last}
 use Rattle.nmgc_world_spec.specs.declared.value.Value.TheVariants as value
 use Rattle.nmgc_snapshot_laws.specs.declared.event.Event.TheVariants as event
@@ -65,10 +65,6 @@ read_history s (Some value.Nil) = same_history s
 read_history s (Some (value.Number n)) = same_history s
 read_history s (Some (value.Ref name)) = mark_history s name
 
-advanced_history : (s : State) (queue : List Entry) → SameHistory s (advanced s queue)
-advanced_history s [] = same_history s
-advanced_history s (entry ∷ rest) = record { world = refl; snapshot = refl; opened = refl; finalised = refl; is_closed = refl }
-
 then_history : (s t u : State) → SameHistory s t → SameHistory t u → SameHistory s u
 then_history s t u a b = record {
   world = b.world ∙ a.world;
@@ -81,8 +77,8 @@ then_history s t u a b = record {
 pub scan_history : (s : State) (queue : List Entry) → SameHistory s (after_scan s queue)
 scan_history s [] = same_history s
 scan_history s (entry ∷ rest) =
-    let t : State = mark_read s (read_at (node_of s.world entry.name) entry.position) in
-    then_history s t (advanced t t.queue) (read_history s (read_at (node_of s.world entry.name) entry.position)) (advanced_history t t.queue)
+    let h = read_history (record s { queue = rest }) (read_at (node_of s.world entry.name) entry.position) in
+    record { world = h.world; snapshot = h.snapshot; opened = h.opened; finalised = h.finalised; is_closed = h.is_closed }
 
 pub push_history : (s : State) (m : ℕ) (names : List Name) → SameHistory s (after_push s m names)
 push_history s m [] = same_history s
@@ -143,15 +139,15 @@ command_under_way w rows s m c answer u can says =
     }
 
 -- a run so far, by these events
-pub record IsSoFar (w : World) (es : List Event) (rows : List Row) (s : State) : Type 0 where
-  pub runs : Runs (opening w) es rows s
+pub record IsSoFar (order : Order) (w : World) (es : List Event) (rows : List Row) (s : State) : Type 0 where
+  pub runs : Runs (opening_in order w) es rows s
   pub before : s.is_closed ≡ false → IsUnderWay w rows s
-  pub after : s.is_closed ≡ true → IsExact w es rows s
+  pub after : s.is_closed ≡ true → IsExact order w es rows s
 
 -- the closing of a run that is under way
-close_exact : (w : World) (es : List Event) (rows : List Row) (s t : State) → Runs (opening w) es rows s → IsUnderWay w rows s →
-    IsPossible s event.Close → (c : IsClosing s t) → IsExact w (es ++ event.Close ∷ []) rows t
-close_exact w es rows s t runs u possible c =
+close_exact : (order : Order) (w : World) (es : List Event) (rows : List Row) (s t : State) → Runs (opening_in order w) es rows s → IsUnderWay w rows s →
+    IsPossible s event.Close → (c : IsClosing s t) → IsExact order w (es ++ event.Close ∷ []) rows t
+close_exact order w es rows s t runs u possible c =
     let queue : s.queue ≡ [] = possible.1 in
     let owed : AreEmpty s.owed = possible.2 in
     let pushed : AreEmpty s.pushed = possible.3 in
@@ -179,8 +175,9 @@ close_exact w es rows s t runs u possible c =
     }
 
 -- an event that can't happen after a closing
-exact_later : (w : World) (es : List Event) (rows : List Row) (s : State) (e : Event) → IsExact w es rows s → IsExact w (es ++ e ∷ []) rows s
-exact_later w es rows s e x = record {
+exact_later : (order : Order) (w : World) (es : List Event) (rows : List Row) (s : State) (e : Event) → IsExact order w es rows s →
+    IsExact order w (es ++ e ∷ []) rows s
+exact_later order w es rows s e x = record {
   earlier = x.earlier;
   later = x.later ++ e ∷ [];
   events_are = ap (λ (l : List Event). l ++ e ∷ []) x.events_are ∙ append_assoc x.earlier (event.Close ∷ x.later) (e ∷ []);
@@ -207,44 +204,44 @@ values_history s (value.Ref name ∷ values) =
     then_history s (mark_name s name) (mark_values (mark_name s name) values) (mark_history s name) (values_history (mark_name s name) values)
 
 -- the world at the opening
-pub opening_world : (w : World) → (opening w).world ≡ w
-opening_world w = (values_history (unmarked w) (root_values w)).world
+pub opening_world : (order : Order) (w : World) → (opening_in order w).world ≡ w
+opening_world order w = (values_history (unmarked order w) (root_values w)).world
 
 -- the start of a run
-pub so_far_starts : (w : World) → IsWorld w → IsSoFar w [] [] (opening w)
-so_far_starts w h =
-    let start : SameHistory (unmarked w) (opening w) = values_history (unmarked w) (root_values w) in
+pub so_far_starts : (order : Order) (w : World) → IsWorld w → IsSoFar order w [] [] (opening_in order w)
+so_far_starts order w h =
+    let start : SameHistory (unmarked order w) (opening_in order w) = values_history (unmarked order w) (root_values w) in
     record {
       runs = (refl, refl);
-      before = λ e. let f : Facts (opening w) = opening_facts w h in record {
+      before = λ e. let f : Facts (opening_in order w) = opening_facts order w h in record {
         facts = f;
-        world = subst IsWorld (sym (opening_world w)) h;
+        world = subst IsWorld (sym (opening_world order w)) h;
         marking = record {
           legal = tt;
           snapshot = start.snapshot;
           world = start.world;
           opened = start.opened;
           finalised = start.finalised;
-          live = live_from w (opening w) f start.snapshot;
+          live = live_from w (opening_in order w) f start.snapshot;
         };
       };
-      after = λ e. absurd (let a : (opening w).is_closed ≡ false = start.is_closed in let b : false ≡ true = cc in cc);
+      after = λ e. absurd (let a : (opening_in order w).is_closed ≡ false = start.is_closed in let b : false ≡ true = cc in cc);
     }
 
 -- one event of a run
-module _ (w : World) (es : List Event) (rows : List Row) (s : State) (r : IsSoFar w es rows s) where
+module _ (order : Order) (w : World) (es : List Event) (rows : List Row) (s : State) (r : IsSoFar order w es rows s) where
   -- an event that is no command and doesn't close
   quiet : (e : Event) (t : State) → row_of e ≡ [] → s.is_closed ≡ false → SameHistory s t → Facts t → Passes s e true t →
-      IsSoFar w (es ++ e ∷ []) (rows ++ rows_if true e) t
+      IsSoFar order w (es ++ e ∷ []) (rows ++ rows_if true e) t
   quiet e t none running same f p = record {
-    runs = runs_push (opening w) s t es rows e true r.runs p;
+    runs = runs_push (opening_in order w) s t es rows e true r.runs p;
     before = λ k. rw (none, append-nil) (same_under_way w rows s t (r.before running) same f);
     after = λ k. absurd (still_open s t same running k);
   }
 
-  happened : (e : Event) (t : State) → Passes s e true t → IsSoFar w (es ++ e ∷ []) (rows ++ rows_if true e) t
+  happened : (e : Event) (t : State) → Passes s e true t → IsSoFar order w (es ++ e ∷ []) (rows ++ rows_if true e) t
   happened (event.Command m c answer) t p = record {
-    runs = runs_push (opening w) s t es rows (event.Command m c answer) true r.runs p;
+    runs = runs_push (opening_in order w) s t es rows (event.Command m c answer) true r.runs p;
     before = λ k. subst (IsUnderWay w (rows ++ (record { mutator = m; command = c; reply = answer }) ∷
         [])) (sym p.1) (command_under_way w rows s m c answer (r.before p.0.0) p.0.1 p.0.2);
     after = λ k. absurd (let a : t.is_closed ≡ s.is_closed = ap (λ (x : State). x.is_closed) p.1 in let b : s.is_closed ≡ false = p.0.0 in
@@ -260,51 +257,52 @@ module _ (w : World) (es : List Event) (rows : List Row) (s : State) (r : IsSoFa
       quiet (event.Take m) t refl p.0.0 (subst (SameHistory s) (sym p.1) (take_history s m (names_of s.pushed m)))
       (subst Facts (sym p.1) (take_facts s (r.before p.0.0).facts m (names_of s.pushed m) refl)) p
   happened event.Close t p = record {
-    runs = runs_push (opening w) s t es rows event.Close true r.runs p;
+    runs = runs_push (opening_in order w) s t es rows event.Close true r.runs p;
     before = λ k. absurd (let a : t.is_closed ≡ true = ap (λ (x : State). x.is_closed) p.1.rest in let d : true ≡ false = cc in cc);
-    after = λ k. subst (λ (l : List Row). IsExact w (es ++ event.Close ∷
-        []) l t) (sym (append-nil rows)) (close_exact w es rows s t r.runs (r.before p.0.0) p.0 p.1);
+    after = λ k. subst (λ (l : List Row). IsExact order w (es ++ event.Close ∷
+        []) l t) (sym (append-nil rows)) (close_exact order w es rows s t r.runs (r.before p.0.0) p.0 p.1);
   }
 
   -- an event that can't happen
-  refused : (e : Event) (t : State) → Passes s e false t → IsSoFar w (es ++ e ∷ []) (rows ++ rows_if false e) t
+  refused : (e : Event) (t : State) → Passes s e false t → IsSoFar order w (es ++ e ∷ []) (rows ++ rows_if false e) t
   refused e t p = record {
-    runs = runs_push (opening w) s t es rows e false r.runs p;
+    runs = runs_push (opening_in order w) s t es rows e false r.runs p;
     before = λ k. rw append-nil (subst (IsUnderWay w rows) (sym p.1) (r.before (ap (λ (x : State). x.is_closed) (sym p.1) ∙ k)));
-    after = λ k. subst (λ (l : List Row). IsExact w (es ++ e ∷
-        []) l t) (sym (append-nil rows)) (subst (IsExact w (es ++ e ∷
-        []) rows) (sym p.1) (exact_later w es rows s e (r.after (ap (λ (x : State). x.is_closed) (sym p.1) ∙ k))));
+    after = λ k. subst (λ (l : List Row). IsExact order w (es ++ e ∷
+        []) l t) (sym (append-nil rows)) (subst (IsExact order w (es ++ e ∷
+        []) rows) (sym p.1) (exact_later order w es rows s e (r.after (ap (λ (x : State). x.is_closed) (sym p.1) ∙ k))));
   }
 
-  so_far_on : (e : Event) (done : Bool) (t : State) → Passes s e done t → IsSoFar w (es ++ e ∷ []) (rows ++ rows_if done e) t
+  so_far_on : (e : Event) (done : Bool) (t : State) → Passes s e done t → IsSoFar order w (es ++ e ∷ []) (rows ++ rows_if done e) t
   so_far_on e true t p = happened e t p
   so_far_on e false t p = refused e t p
 
 -- the events of a run in order
-so_far_runs : (w : World) (past : List Event) (rows : List Row) (s : State) (es : List Event) (more : List Row) (t : State) →
-    IsSoFar w past rows s → Runs s es more t → IsSoFar w (past ++ es) (rows ++ more) t
-so_far_runs w past rows s [] more t r h =
-    let now : IsSoFar w (past ++ []) rows s = subst (λ (l : List Event). IsSoFar w l rows s) (sym (append-nil past)) r in
-    rw (h.0, h.1) (subst (λ (l : List Row). IsSoFar w (past ++ []) l s) (sym (append-nil rows)) now)
-so_far_runs w past rows s (e ∷ es) more t r (done, next, rest, first, is, runs) =
-    let now : IsSoFar w ((past ++ e ∷ []) ++ es) ((rows ++ rows_if done e) ++ rest) t =
-    so_far_runs w (past ++ e ∷ []) (rows ++ rows_if done e) next es rest t (so_far_on w past rows s r e done next first) runs in
-    let moved : IsSoFar w (past ++ e ∷ es) ((rows ++ rows_if done e) ++ rest) t =
-    subst (λ (l : List Event). IsSoFar w l ((rows ++ rows_if done e) ++ rest) t) (append_assoc past (e ∷ []) es) now in
+so_far_runs : (order : Order) (w : World) (past : List Event) (rows : List Row) (s : State) (es : List Event) (more : List Row) (t : State) →
+    IsSoFar order w past rows s → Runs s es more t → IsSoFar order w (past ++ es) (rows ++ more) t
+so_far_runs order w past rows s [] more t r h =
+    let now : IsSoFar order w (past ++ []) rows s = subst (λ (l : List Event). IsSoFar order w l rows s) (sym (append-nil past)) r in
+    rw (h.0, h.1) (subst (λ (l : List Row). IsSoFar order w (past ++ []) l s) (sym (append-nil rows)) now)
+so_far_runs order w past rows s (e ∷ es) more t r (done, next, rest, first, is, runs) =
+    let now : IsSoFar order w ((past ++ e ∷ []) ++ es) ((rows ++ rows_if done e) ++ rest) t =
+    so_far_runs order w (past ++ e ∷ []) (rows ++ rows_if done e) next es rest t (so_far_on order w past rows s r e done next first) runs in
+    let moved : IsSoFar order w (past ++ e ∷ es) ((rows ++ rows_if done e) ++ rest) t =
+    subst (λ (l : List Event). IsSoFar order w l ((rows ++ rows_if done e) ++ rest) t) (append_assoc past (e ∷ []) es) now in
     rw (is, ← append_assoc rows (rows_if done e) rest) moved
 
-pub run_so_far : (w : World) → IsWorld w → (es : List Event) (rows : List Row) (s : State) → Runs (opening w) es rows s → IsSoFar w es rows s
-run_so_far w h es rows s runs = so_far_runs w [] [] (opening w) es rows s (so_far_starts w h) runs
+pub run_so_far : (order : Order) (w : World) → IsWorld w → (es : List Event) (rows : List Row) (s : State) → Runs (opening_in order w) es rows s →
+    IsSoFar order w es rows s
+run_so_far order w h es rows s runs = so_far_runs order w [] [] (opening_in order w) es rows s (so_far_starts order w h) runs
 
 -- the snapshot theorem
 pub snapshot_theorem : SnapshotTheorem
-snapshot_theorem w h es rows s runs =
-    let r : IsSoFar w es rows s = run_so_far w h es rows s runs in
+snapshot_theorem order w h es rows s runs =
+    let r : IsSoFar order w es rows s = run_so_far order w h es rows s runs in
     record { before = λ e. (r.before e).marking; after = r.after }
 
 -- the facts hold at the opening, and each event keeps them
 pub opening_has_facts : OpeningHasFacts
-opening_has_facts w h = opening_facts w h
+opening_has_facts order w h = opening_facts order w h
 
 pub event_keeps_facts : EventKeepsFacts
 event_keeps_facts s next (event.Command m c answer) f h p running = (
@@ -336,4 +334,4 @@ closing_is_exact s next f p c = record {
 
 -- and the facts before the closing
 pub facts_kept : FactsAreKept
-facts_kept w h es rows s runs running = ((run_so_far w h es rows s runs).before running).facts
+facts_kept order w h es rows s runs running = ((run_so_far order w h es rows s runs).before running).facts

@@ -1,8 +1,8 @@
 -- A scan keeps the facts: a name that it reads is live, and the target of an unchanged field that it has read is marked.
-use Rattle.std.specs.Prelude.{◌≡◌, ◌<◌, ◌≤◌, ◌+◌, ◌∷◌, ◌++◌, ◌&&◌}
-use Rattle.nmgc_snapshot_laws.specs.laws.Vocabulary.{ℕ, List, [], zero, suc, refl, sym, ap, subst, ◌∙◌, arith, append-nil, Option, Some, None, Bool, true, false, cond, eqb, leb, inl, inr, IsSome, All, Contains, All-contains, Contains-append_left, Contains-append_right, Contains-append_cases, same_Some, cases_eq, or_parts, or_from, and_cases, and_left, and_right, lt-leb, eq-eqb, ne_eqb, false_from_ne_true, Name, Value, Node, Con, Var, Arr, Thunk, Weak, Stack, node_of, IsWorld, IsNodeOf, IsSized, field, strong_fields, Entry, State, with_mark, entry_of, mark_name, mark_read, read_at, fields_of, is_last, moved_on, has_result, strong_at, free_of, Names, HasStrongField, StillThere, advanced, after_scan, nothing_in, one_is, contains_one, contains_cases, contains_head, contains_tail, at_some, is_some_of, field_at_place, MayHold, IsLiveIn, IsSafe, Kept, IsPassed, Base, Facts, owed, pushed, queued, marked, unmarked}
+use Rattle.std.specs.Prelude.{◌≡◌, ◌<◌, ◌≤◌, ◌+◌, ◌∷◌, ◌++◌, ◌&&◌, ◌⊎◌}
+use Rattle.nmgc_snapshot_laws.specs.laws.Vocabulary.{ℕ, List, [], zero, suc, refl, sym, ap, subst, ◌∙◌, arith, Option, Some, None, Bool, true, false, cond, eqb, leb, inl, inr, IsSome, All, Contains, All-contains, Contains-append_left, Contains-append_right, Contains-append_cases, same_Some, cases_eq, or_parts, or_from, and_cases, and_left, and_right, lt-leb, eq-eqb, ne_eqb, false_from_ne_true, Name, Value, Node, Con, Var, Arr, Thunk, Weak, Stack, node_of, IsWorld, IsNodeOf, IsSized, field, strong_fields, Entry, joined, State, is_new, with_mark, entry_of, mark_name, mark_read, read_at, fields_of, is_last, moved_on, has_result, strong_at, free_of, Names, HasStrongField, StillThere, advanced, after_scan, nothing_in, one_is, contains_one, contains_cases, contains_head, contains_tail, at_some, is_some_of, field_at_place, MayHold, IsLiveIn, IsSafe, Kept, IsPassed, Base, Facts, owed, pushed, queued, marked, unmarked}
 use Rattle.nmgc_world_spec.specs.declared.value.Value.TheVariants as value
-use Rattle.nmgc_snapshot_laws.specs.laws.{ScanReads.read_at_place, ScanReads.within_fields, ScanReads.read_cases, Lives.live_there, Lives.target_there, Lives.refers, Marking.mark_cases, Marking.mark_facts, Marking.marked_then}
+use Rattle.nmgc_snapshot_laws.specs.laws.{ScanReads.read_at_place, ScanReads.within_fields, ScanReads.read_cases, Lives.live_there, Lives.target_there, Lives.refers, Marking.joined_cases, Marking.joined_new, Marking.joined_old, Marking.mark_facts, Marking.marked_then}
 
 -- an entry before its last position has fields left, and isn't at a thunk's result that was read
 not_last : (node : Node) (position : ℕ) → position < fields_of node → (position ≡ 1 → has_result node ≡ false) → is_last node position ≡ false
@@ -116,17 +116,12 @@ module _ (s : State) (f : Facts s) (w : IsWorld s.world) (entry : Entry) (rest :
 abbrev pub stepped : State → Node → Entry → List Entry → State
 stepped s node entry rest = record s { queue = moved_on (Some node) entry ++ rest }
 
--- an entry whose object's node is known moves on, once the name that it read is marked
-module _ (s : State) (f : Facts s) (w : IsWorld s.world) (entry : Entry) (rest : List Entry) (first : s.queue ≡ entry ∷
-    rest) (node : Node) (is : node_of s.world entry.name ≡ Some node)
+-- an entry whose object's node is known moves on, once the name that it read is marked; only the members of the queue matter
+module _ (s : State) (f : Facts s) (w : IsWorld s.world) (entry : Entry) (rest : List Entry) (there : Contains s.queue entry)
+    (in_rest : (e : Entry) → Contains rest e → Contains s.queue e) (or_first : (e : Entry) → Contains s.queue e → (entry ≡ e) ⊎ Contains rest e)
+    (node : Node) (is : node_of s.world entry.name ≡ Some node)
     (seen : (i : ℕ) (target : Name) → entry.position ≡ i + 1 → strong_at node i ≡ Some (value.Ref target) → IsSome (node_of s.snapshot target) →
     Contains s.marked target) where
-  there : Contains s.queue entry
-  there = rw first (contains_head entry rest)
-
-  in_rest : (e : Entry) → Contains rest e → Contains s.queue e
-  in_rest e h = rw first (contains_tail entry rest e h)
-
   sized : IsSized node
   sized = let mine : IsNodeOf s.world node = at_some (node_of s.world entry.name) node (IsNodeOf s.world) is (w.nodes entry.name) in mine.sized
 
@@ -214,12 +209,12 @@ module _ (s : State) (f : Facts s) (w : IsWorld s.world) (entry : Entry) (rest :
       Kept (stepped s node entry rest) name i target
   moved_kept name i target known (inl safe) = inl (still_safe target safe)
   moved_kept name i target known (inr (st, unmarked h)) = inr (st, unmarked h)
-  moved_kept name i target known (inr (st, queued e h n le)) = elim (contains_cases entry rest e (rw first at h)) [
+  moved_kept name i target known (inr (st, queued e h n le)) = elim (or_first e h) [
     | inl same ↦ first_kept name i target known st (subst (λ (x : Entry). x.name ≡ name) (sym same) n) (subst (λ (x : Entry). x.position ≤ i + 1) (sym same) le)
     | inr other ↦ inr (st, queued e (Contains-append_right (moved_on (Some node) entry) rest e other) n le)
   ]
 
-  stepped_facts : Facts (stepped s node entry rest)
+  pub stepped_facts : Facts (stepped s node entry rest)
   stepped_facts = record {
     base = moved_base;
     roots = f.roots;
@@ -229,9 +224,6 @@ module _ (s : State) (f : Facts s) (w : IsWorld s.world) (entry : Entry) (rest :
     ended = λ weak c there. still_safe weak (f.ended weak c there);
     finalised = λ weak target parts c alive kept. still_safe target (f.finalised weak target parts c alive kept);
   }
-
-  pub advanced_facts : Facts (advanced s s.queue)
-  advanced_facts = rw (first, is) stepped_facts
 
 -- the node of the first entry
 first_node : (s : State) → Facts s → (entry : Entry) → Contains s.queue entry → (node : Node) × (node_of s.world entry.name ≡ Some node)
@@ -245,32 +237,50 @@ first_node s f entry h =
 -- the effect of a scan of a known node, by the value that it reads
 module _ (s : State) (f : Facts s) (w : IsWorld s.world) (entry : Entry) (rest : List Entry) (first : s.queue ≡ entry ∷
     rest) (node : Node) (is : node_of s.world entry.name ≡ Some node) where
-  queue_stays : (name : Name) → (more : List Entry) × ((mark_name s name).queue ≡ entry ∷ (rest ++ more))
-  queue_stays name = mark_cases (λ t. (more : List Entry) × (t.queue ≡ entry ∷ (rest ++ more))) s name (λ e. (
-    entry_of name ∷ [],
-    rw first refl,
-  )) (λ e. ([], rw append-nil first))
+  there : Contains s.queue entry
+  there = rw first (contains_head entry rest)
+
+  in_rest : (e : Entry) → Contains rest e → Contains s.queue e
+  in_rest e h = rw first (contains_tail entry rest e h)
+
+  or_first : (e : Entry) → Contains s.queue e → (entry ≡ e) ⊎ Contains rest e
+  or_first e h = contains_cases entry rest e (rw first at h)
+
+  -- the state without the first entry
+  abbrev taken : State
+  taken = record s { queue = rest }
 
   -- the value at the position is the value that is read
   read_is : (i : ℕ) (v : Value) → entry.position ≡ i + 1 → strong_at node i ≡ Some v → read_at (Some node) entry.position ≡ Some v
   read_is i v at h = let at' : entry.position ≡ suc i = omega arith in rw at' (read_at_place node i v h)
 
   -- a name is read
-  scan_name : (target : Name) → read_at (Some node) entry.position ≡ Some (value.Ref target) → Facts (advanced (mark_name s target) (mark_name s target).queue)
-  scan_name target h =
-      let may : MayHold s target = read_may s f w entry rest first node entry.position target is refl h in
-      let q : (more : List Entry) × ((mark_name s target).queue ≡ entry ∷ (rest ++ more)) = queue_stays target in
-      mark_cases (λ t. Facts t → IsWorld t.world → (more : List Entry) → t.queue ≡ entry ∷ (rest ++ more) → node_of t.world entry.name ≡ Some node →
-      ((i : ℕ) (other : Name) → entry.position ≡ i + 1 → strong_at node i ≡ Some (value.Ref other) → IsSome (node_of s.snapshot other) →
-      Contains t.marked other) → Facts (advanced t t.queue)) s target
-      (λ e ft wt more qt nt seen. advanced_facts (with_mark s target) ft wt entry (rest ++ more) qt node nt seen)
-      (λ e ft wt more qt nt seen. advanced_facts s ft wt entry (rest ++ more) qt node nt seen)
-      (mark_facts s target f may)
-      (mark_cases (λ t. IsWorld t.world) s target (λ e. w) (λ e. w))
-      q.0 q.1
-      (mark_cases (λ t. node_of t.world entry.name ≡ Some node) s target (λ e. is) (λ e. is))
-      seen_it
+  scan_name : (target : Name) → read_at (Some node) entry.position ≡ Some (value.Ref target) → Facts (advanced (mark_name taken target) entry)
+  scan_name target h = by_test (is_new s target) (mark_facts s target f (read_may s f w entry rest first node entry.position target is refl h)) seen_it
     where
+      new : Entry
+      new = entry_of target
+
+      -- the queue has the same entries, whether the first entry was in it or not as the name was queued
+      within : (e : Entry) → Contains (joined s.order rest new) e → Contains (joined s.order s.queue new) e
+      within e c = elim (joined_cases s.order rest new e c) [
+        | inl old ↦ joined_old s.order s.queue new e (in_rest e old)
+        | inr same ↦ subst (Contains (joined s.order s.queue new)) same (joined_new s.order s.queue new)
+      ]
+
+      or_else : (e : Entry) → Contains (joined s.order s.queue new) e → (entry ≡ e) ⊎ Contains (joined s.order rest new) e
+      or_else e c = elim (joined_cases s.order s.queue new e c) [
+        | inl old ↦ elim (or_first e old) [ inl same ↦ inl same | inr r ↦ inr (joined_old s.order rest new e r) ]
+        | inr same ↦ inr (subst (Contains (joined s.order rest new)) same (joined_new s.order rest new))
+      ]
+
+      by_test : (b : Bool) → Facts (cond b (with_mark s target) s) → ((i : ℕ) (other : Name) → entry.position ≡ i + 1 →
+          strong_at node i ≡ Some (value.Ref other) → IsSome (node_of s.snapshot other) → Contains (cond b (with_mark s target) s).marked other) →
+          Facts (advanced (cond b (with_mark taken target) taken) entry)
+      by_test true g seen = rw is (stepped_facts (with_mark s target) g w entry (joined s.order rest new)
+          (joined_old s.order s.queue new entry there) within or_else node is seen)
+      by_test false g seen = rw is (stepped_facts s f w entry rest there in_rest or_first node is seen)
+
       seen_it : (i : ℕ) (other : Name) → entry.position ≡ i + 1 → strong_at node i ≡ Some (value.Ref other) → IsSome (node_of s.snapshot other) →
           Contains (mark_name s target).marked other
       seen_it i other at stood known =
@@ -280,11 +290,11 @@ module _ (s : State) (f : Facts s) (w : IsWorld s.world) (entry : Entry) (rest :
           IsSome (node_of s.snapshot n)) (sym same) known))
 
   -- no value is read, or a value that is no reference
-  scan_plain : (o : Option Value) → read_at (Some node) entry.position ≡ o → ((other : Name) → o ≡ Some (value.Ref other) → ⊥) → Facts (advanced s s.queue)
-  scan_plain o h plain = advanced_facts s f w entry rest first node is (λ i other at stood known.
-      absurd (plain other (sym h ∙ read_is i (value.Ref other) at stood)))
+  scan_plain : (o : Option Value) → read_at (Some node) entry.position ≡ o → ((other : Name) → o ≡ Some (value.Ref other) → ⊥) → Facts (advanced taken entry)
+  scan_plain o h plain = rw is (stepped_facts s f w entry rest there in_rest or_first node is (λ i other at stood known.
+      absurd (plain other (sym h ∙ read_is i (value.Ref other) at stood))))
 
-  scan_read : (o : Option Value) → read_at (Some node) entry.position ≡ o → Facts (advanced (mark_read s o) (mark_read s o).queue)
+  scan_read : (o : Option Value) → read_at (Some node) entry.position ≡ o → Facts (advanced (mark_read taken o) entry)
   scan_read None h = scan_plain None h (λ other e. absurd cc)
   scan_read (Some value.Nil) h = scan_plain (Some value.Nil) h (λ other e. absurd cc)
   scan_read (Some (value.Number n)) h = scan_plain (Some (value.Number n)) h (λ other e. absurd cc)

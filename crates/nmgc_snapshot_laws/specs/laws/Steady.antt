@@ -1,7 +1,7 @@
 -- A field that holds in every world of a run is read: its target is marked, or the scan of its object has yet to reach it. A
 -- push doesn't help here: a pushed name isn't marked yet. So this is kept apart from the facts.
-use Rattle.std.specs.Prelude.{◌≡◌, ◌≤◌, ◌+◌, ◌∷◌, ◌++◌, ◌⊎◌}
-use Rattle.nmgc_snapshot_laws.specs.laws.Vocabulary.{ℕ, List, [], suc, refl, sym, ap, subst, ◌∙◌, arith, true, false, Option, Some, None, inl, inr, IsSome, Contains, contains_cases, at_some, one_is, name_cases, cases_eq, Contains-append_left, Contains-append_right, Name, Value, Node, World, IsWorld, IsNodeOf, node_of, shared_name, Row, RefersTo, Entry, Event, Facts, IsAhead, queued, unmarked, HasStrongField, advanced, after_command, after_push, after_scan, after_take, Runs, is_last, moved_on, read_at, State, entry_of, mark_name, mark_read, mark_values, names_of, opening, root_values}
+use Rattle.std.specs.Prelude.{◌≡◌, ◌≤◌, ◌+◌, ◌∷◌, ◌⊎◌}
+use Rattle.nmgc_snapshot_laws.specs.laws.Vocabulary.{ℕ, List, [], suc, refl, sym, ap, subst, ◌∙◌, arith, true, false, Option, Some, None, inl, inr, IsSome, Contains, contains_cases, at_some, one_is, name_cases, cases_eq, Contains-append_left, Contains-append_right, Name, Value, Node, World, IsWorld, IsNodeOf, node_of, shared_name, Row, RefersTo, Entry, Event, Facts, IsAhead, queued, unmarked, HasStrongField, advanced, after_command, after_push, after_scan, after_take, Runs, is_last, moved_on, read_at, State, Order, mark_name, mark_read, mark_values, names_of, opening_in, root_values}
 use Rattle.nmgc_world_spec.specs.Reach.{HoldsThroughout}
 use Rattle.nmgc_snapshot_laws.specs.{State.unmarked as first_state, laws.Lives.refers, laws.Lives.target_there, laws.Marking.mark_cases, laws.Marking.ahead_then, laws.Marking.marked_then, laws.ScanReads.read_at_place, laws.ScanReads.within_fields, laws.Scans.entry_stays, laws.Scans.moved_stays, laws.Openings.slot_marked, laws.MarkedOnce.open_before, laws.Runs.SameHistory, laws.Runs.read_history, laws.Runs.scan_history, laws.Runs.push_history, laws.Runs.take_history, laws.Runs.values_history, laws.Runs.event_keeps_facts, laws.Runs.opening_has_facts, laws.Runs.opening_world}
 use Rattle.nmgc_world_spec.specs.declared.value.Value.TheVariants as value
@@ -11,16 +11,6 @@ use Rattle.nmgc_snapshot_laws.specs.declared.event.Event.TheVariants as event
 pub first_holds : (P : World → Type 0) (w : World) (rows : List Row) → HoldsThroughout P w rows → P w
 first_holds P w [] h = h
 first_holds P w (row ∷ rows) h = h.0
-
--- marking keeps the first entry of the queue
-first_stays : (s : State) (entry : Entry) (rest : List Entry) → s.queue ≡ entry ∷ rest → (v : Option Value) →
-    (more : List Entry) × ((mark_read s v).queue ≡ entry ∷ more)
-first_stays s entry rest e None = (rest, e)
-first_stays s entry rest e (Some value.Nil) = (rest, e)
-first_stays s entry rest e (Some (value.Number n)) = (rest, e)
-first_stays s entry rest e (Some (value.Ref n)) = mark_cases (λ t. (more : List Entry) × (t.queue ≡ entry ∷ more)) s n
-    (λ new. (rest ++ entry_of n ∷ [], ap (λ (l : List Entry). l ++ entry_of n ∷ []) e))
-    (λ old. (rest, e))
 
 module _ (name : Name) (i : ℕ) (target : Name) where
   -- the field: in this world the name refers to the target at this position
@@ -54,10 +44,10 @@ module _ (name : Name) (i : ℕ) (target : Name) where
   ahead_values s (value.Ref n ∷ values) h = ahead_values (mark_name s n) values (ahead_name s n h)
 
   -- as marking begins, nothing was read, except g's slots
-  ahead_opening : (w : World) → IsWorld w → Field w → IsReadOrAhead (opening w)
-  ahead_opening w is st = elim (name_cases name shared_name) [
-    | inl g ↦ inl (slot_marked w is target (subst (λ (n : Name). RefersTo w n target) g (refers w name target i st)))
-    | inr ne ↦ ahead_values (first_state w) (root_values w) (inr (unmarked (λ c. ne (sym (one_is shared_name name c)))))
+  ahead_opening : (order : Order) (w : World) → IsWorld w → Field w → IsReadOrAhead (opening_in order w)
+  ahead_opening order w is st = elim (name_cases name shared_name) [
+    | inl g ↦ inl (slot_marked order w is target (subst (λ (n : Name). RefersTo w n target) g (refers w name target i st)))
+    | inr ne ↦ ahead_values (first_state order w) (root_values w) (inr (unmarked (λ c. ne (sym (one_is shared_name name c)))))
   ]
 
   -- a scan at this field reads the target
@@ -71,42 +61,56 @@ module _ (name : Name) (i : ℕ) (target : Name) where
       (subst (λ (p : ℕ). read_at (Some st.node) p ≡ Some (value.Ref target)) (sym next) (read_at_place st.node i (value.Ref target) st.field)) in
       subst (λ (o : Option Value). Contains (mark_read s o).marked target) (sym v) (marked_then s target there)
 
-  -- the first entry moves on, once the target was marked if it was at this field
-  ahead_moved : (t : State) (entry : Entry) (rest : List Entry) → IsWorld t.world → Field t.world → t.queue ≡ entry ∷ rest →
-      (entry.name ≡ name → entry.position ≡ i + 1 → Contains t.marked target) → IsReadOrAhead t → IsReadOrAhead (advanced t (entry ∷ rest))
-  ahead_moved t entry rest w st first seen (inl k) = inl k
-  ahead_moved t entry rest w st first seen (inr (unmarked k)) = inr (unmarked k)
-  ahead_moved t entry rest w st first seen (inr (queued e c is le)) =
-      elim (contains_cases entry rest e (subst (λ (l : List Entry). Contains l e) first c)) [
-        | inr other ↦ inr (queued e (Contains-append_right (moved_on (node_of t.world entry.name) entry) rest e other) is le)
-        | inl same ↦ mine (ap (λ (x : Entry). x.name) same ∙ is) (subst (λ (x : Entry). x.position ≤ i + 1) (sym same) le)
-      ]
-    where
-      mine : entry.name ≡ name → entry.position ≤ i + 1 → IsReadOrAhead (advanced t (entry ∷ rest))
-      mine own low = elim (cases_eq entry.position (i + 1)) [
-        | inl now ↦ inl (seen own now)
-        | inr ne ↦
-            let n : entry.position ≡ i + 1 → ⊥ = ne in
-            let before : entry.position ≤ i = omega (arith, n) in
-            let node_is : node_of t.world entry.name ≡ Some st.node = ap (λ (x : Name). node_of t.world x) own ∙ st.node_is in
-            let of_world : IsNodeOf t.world st.node = at_some (node_of t.world name) st.node (IsNodeOf t.world) st.node_is (w.nodes name) in
-            let stays : is_last st.node entry.position ≡ false =
-            entry_stays st.node entry i (value.Ref target) (within_fields st.node i (value.Ref target) of_world.sized st.field) st.field before in
-            let later : Entry = record { name = entry.name; position = entry.position + 1 } in
-            inr (queued later (Contains-append_left (moved_on (node_of t.world entry.name) entry) rest later
-            (subst (λ (o : Option Node). Contains (moved_on o entry) later) (sym node_is) (moved_stays st.node entry stays))) own (omega arith))
-      ]
+  -- an entry that is first again leaves the other entries
+  ahead_front : (t : State) (entry : Entry) → IsReadOrAhead t → IsReadOrAhead (advanced t entry)
+  ahead_front t entry (inl k) = inl k
+  ahead_front t entry (inr (unmarked k)) = inr (unmarked k)
+  ahead_front t entry (inr (queued e c is le)) =
+      inr (queued e (Contains-append_right (moved_on (node_of t.world entry.name) entry) t.queue e c) is le)
+
+  -- the object's own entry moves on, once the target was marked if it was at this field
+  ahead_moved : (t : State) (entry : Entry) → IsWorld t.world → Field t.world →
+      (entry.name ≡ name → entry.position ≡ i + 1 → Contains t.marked target) → entry.name ≡ name → entry.position ≤ i + 1 →
+      IsReadOrAhead (advanced t entry)
+  ahead_moved t entry w st seen own low = elim (cases_eq entry.position (i + 1)) [
+    | inl now ↦ inl (seen own now)
+    | inr ne ↦
+        let n : entry.position ≡ i + 1 → ⊥ = ne in
+        let before : entry.position ≤ i = omega (arith, n) in
+        let node_is : node_of t.world entry.name ≡ Some st.node = ap (λ (x : Name). node_of t.world x) own ∙ st.node_is in
+        let of_world : IsNodeOf t.world st.node = at_some (node_of t.world name) st.node (IsNodeOf t.world) st.node_is (w.nodes name) in
+        let stays : is_last st.node entry.position ≡ false =
+        entry_stays st.node entry i (value.Ref target) (within_fields st.node i (value.Ref target) of_world.sized st.field) st.field before in
+        let later : Entry = record { name = entry.name; position = entry.position + 1 } in
+        inr (queued later (Contains-append_left (moved_on (node_of t.world entry.name) entry) t.queue later
+        (subst (λ (o : Option Node). Contains (moved_on o entry) later) (sym node_is) (moved_stays st.node entry stays))) own (omega arith))
+  ]
 
   ahead_scan : (s : State) → IsWorld s.world → IsSome (node_of s.snapshot target) → Field s.world → IsReadOrAhead s → (queue : List Entry) →
       s.queue ≡ queue → IsReadOrAhead (after_scan s queue)
   ahead_scan s w there st h [] e = h
-  ahead_scan s w there st h (entry ∷ rest) e =
-      let v : Option Value = read_at (node_of s.world entry.name) entry.position in
-      let t : State = mark_read s v in
-      let same : t.world ≡ s.world = (read_history s v).world in
-      let first : (more : List Entry) × (t.queue ≡ entry ∷ more) = first_stays s entry rest e v in
-      subst (λ (q : List Entry). IsReadOrAhead (advanced t q)) (sym first.1)
-      (ahead_moved t entry first.0 (subst IsWorld (sym same) w) (subst Field (sym same) st) first.1 (reads s there st entry) (ahead_read s v h))
+  ahead_scan s w there st h (entry ∷ rest) e = by_place h
+    where
+      taken : State
+      taken = record s { queue = rest }
+
+      v : Option Value
+      v = read_at (node_of s.world entry.name) entry.position
+
+      t : State
+      t = mark_read taken v
+
+      same : t.world ≡ s.world
+      same = (read_history taken v).world
+
+      by_place : IsReadOrAhead s → IsReadOrAhead (advanced t entry)
+      by_place (inl k) = ahead_front t entry (ahead_read taken v (inl k))
+      by_place (inr (unmarked k)) = ahead_front t entry (ahead_read taken v (inr (unmarked k)))
+      by_place (inr (queued x c is le)) = elim (contains_cases entry rest x (subst (λ (l : List Entry). Contains l x) e c)) [
+        | inr other ↦ ahead_front t entry (ahead_read taken v (inr (queued x other is le)))
+        | inl own ↦ ahead_moved t entry (subst IsWorld (sym same) w) (subst Field (sym same) st) (reads taken there st entry)
+            (ap (λ (y : Entry). y.name) own ∙ is) (subst (λ (y : Entry). y.position ≤ i + 1) (sym own) le)
+      ]
 
   ahead_push : (s : State) (m : ℕ) (names : List Name) → IsReadOrAhead s → IsReadOrAhead (after_push s m names)
   ahead_push s m [] h = h
@@ -171,15 +175,15 @@ module _ (name : Name) (i : ℕ) (target : Name) where
       absurd (let bad : true ≡ false = sym on ∙ open_before next es rest t later running in cc)
 
   -- a field that holds in every world of a run from an opening
-  pub field_read : (w : World) → IsWorld w → (es : List Event) (rows : List Row) (s : State) → Runs (opening w) es rows s → s.is_closed ≡ false →
-      HoldsThroughout Field w rows → IsReadOrAhead s
-  field_read w is es rows s runs running holds =
+  pub field_read : (order : Order) (w : World) → IsWorld w → (es : List Event) (rows : List Row) (s : State) → Runs (opening_in order w) es rows s →
+      s.is_closed ≡ false → HoldsThroughout Field w rows → IsReadOrAhead s
+  field_read order w is es rows s runs running holds =
       let st : Field w = first_holds Field w rows holds in
-      goes_runs (opening w) es rows s runs running (record {
-        facts = opening_has_facts w is;
-        world = subst IsWorld (sym (opening_world w)) is;
-        there = subst (λ (v : World). IsSome (node_of v target)) (sym (values_history (first_state w) (root_values w)).snapshot)
+      goes_runs (opening_in order w) es rows s runs running (record {
+        facts = opening_has_facts order w is;
+        world = subst IsWorld (sym (opening_world order w)) is;
+        there = subst (λ (v : World). IsSome (node_of v target)) (sym (values_history (first_state order w) (root_values w)).snapshot)
             (target_there w is name target (refers w name target i st));
-        holds = subst (λ (v : World). HoldsThroughout Field v rows) (sym (opening_world w)) holds;
-        ahead = ahead_opening w is st;
+        holds = subst (λ (v : World). HoldsThroughout Field v rows) (sym (opening_world order w)) holds;
+        ahead = ahead_opening order w is st;
       })

@@ -1,4 +1,4 @@
-use Rattle.nmgc_mark.proofs.{Vocabulary.◌≡◌, Vocabulary.◌∙◌, Vocabulary.arith, Vocabulary.map, Vocabulary.sym, Vocabulary.subst, Vocabulary.ap, Vocabulary.flat_map, Vocabulary.IsLayout, Vocabulary.unmarked, Vocabulary.Marks, Vocabulary.marks_of, Vocabulary.slots_of, Vocabulary.queue_words, Vocabulary.most_blocks, Vocabulary.blank, Vocabulary.HasRoomToMark, Vocabulary.MarkerSeen, Vocabulary.IsTied, Vocabulary.with_words, Vocabulary.with_queues, Fields.total_small, Rooms.blank_room, Roots.words_small, Roots.roots_mark, Roots.blank_tied}
+use Rattle.nmgc_mark.proofs.{Vocabulary.◌≡◌, Vocabulary.◌∙◌, Vocabulary.arith, Vocabulary.map, Vocabulary.sym, Vocabulary.subst, Vocabulary.ap, Vocabulary.flat_map, Vocabulary.IsLayout, Vocabulary.newest_first, Vocabulary.unmarked, Vocabulary.Marks, Vocabulary.marks_of, Vocabulary.slots_of, Vocabulary.queue_words, Vocabulary.most_blocks, Vocabulary.blank, Vocabulary.HasRoomToMark, Vocabulary.MarkerSeen, Vocabulary.IsTied, Vocabulary.with_words, Vocabulary.with_queues, Fields.total_small, Rooms.blank_room, Roots.words_small, Roots.roots_mark, Roots.blank_tied}
 use Rattle.nmgc_mark.proofs.marker.Marker.snapshot.Goals as goal
 
 pub mark_registers-requires-clause-room : goal.mark_registers-requires-clause-room
@@ -37,7 +37,7 @@ returns-clause-tied g c = λ o b.
     let ws = g.W.HeapWords.words c.args.words.now in
     let registers = flat_map g.M.MutatorRoots.registers c.args.mutators.now in
     let queues = map g.M.MutatorRoots.queue c.args.mutators.now in
-    let first : Marks = marks_of (unmarked o.core.snapshot) in
+    let first : Marks = marks_of (unmarked newest_first o.core.snapshot) in
     let a = c.mark_registers.ensures.tied o first (subst (λ (m : MarkerSeen).
     IsTied o first c.args.segments.now m) (sym c.in_ok-marker.ensures)
     (blank_tied o c.args.segments.now c.args.epoch c.most_blocks-blocks.result ws registers queues c.layout.ensures.sound b)) in
