@@ -1,7 +1,6 @@
 -- A sweeper when its cycle begins, is closed and ends.
-use Rattle.nmgc_sweep.proofs.Vocabulary.{ℕ, ◌≡◌, ◌≢◌, ◌⊎◌, ◌↔◌, ◌+◌, ◌*◌, ◌<◌, ◌≤◌, ◌∙◌, inl, inr, refl, sym, ap, subst, arith, List, [], ◌∷◌, length, set, cond, sum_by, Option, Some, None, Contains, count_by, get_or-eq_default, cases_eq, cases_lt, sum_by-set, Name, contains_head, contains_tail, contains_cases, Layout, MIN_BLOCK_WORDS, Segment, free_segment, State, Free, Current, Active, Filled, Sweeping, nth, is, Segments, IsWaiting, prepared_state, AllocState, Cells, IsIn, NoneIs, Exists, cells, cycle_begun, StandsFor, begun_cells, sweeping_none, counts_stand, nth-set_same, nth-set_other, used_exists, IsSweptIn, IsHadIn, IsFreedIn, Cycle, Ascends, ListsNumbers, IsWithoutDoubles, StartNotesSegments, LeftStays, ClosingBeginsWork, EndShowsCensus, LeftIsCounted, lists_in_order}
-use Rattle.nmgc_alloc.specs.laws.Counts.{none_sweeping}
-use Rattle.nmgc_sweep.proofs.Lists.{ascends_first, ascends_rest, once_distinct}
+use Rattle.nmgc_sweep.proofs.Vocabulary.{ℕ, zero, suc, ◌≡◌, ◌≢◌, ◌⊎◌, ◌↔◌, ◌+◌, ◌*◌, ◌<◌, ◌≤◌, ◌∙◌, inl, inr, refl, sym, ap, subst, arith, List, [], ◌∷◌, ◌++◌, length, set, cond, sum_by, Option, Some, None, Contains, count_by, get_or-eq_default, cases_lt, sum_by-set, Name, contains_head, contains_tail, contains_cases, Layout, MIN_BLOCK_WORDS, Segment, free_segment, State, Free, Current, Active, Filled, Sweeping, nth, is, Segments, IsWaiting, prepared_state, AllocState, Cells, IsIn, NoneIs, Exists, cells, cycle_begun, StandsFor, begun_cells, sweeping_none, counts_stand, nth-set_same, nth-set_other, used_exists, IsSweptIn, IsHadIn, IsFreedIn, Cycle, ListsNumbers, IsWithoutDoubles, StartNotesSegments, LeftStays, ClosingBeginsWork, EndShowsCensus, LeftIsCounted, lists_in_order}
+use Rattle.nmgc_sweep.proofs.{Lists.ascends_first, Lists.ascends_rest, Lists.once_distinct, Listed.below_more, Listed.below_skip}
 
 -- a waiting segment has its number
 pub waits_exists : (xs : List Segment) (n : ℕ) → (nth xs n).state ≡ Sweeping → n < length xs
@@ -160,27 +159,37 @@ waiting_counted s (n ∷ rest) xs h =
     let goal : sum_by waits_one xs ≡ length rest + 1 = omega (arith, change, one, same) in
     goal ∙ omega arith
 
--- waiting segments are all listed, if the list is as long as their number
-pub all_listed : (s : Segments) (numbers : List ℕ) (xs : List Segment) → Ascends numbers →
-    ((n : ℕ) → Contains numbers n → (nth xs n).state ≡ Sweeping) → count_by (λ (t : Segment). is t.state Sweeping) xs ≡ length numbers →
-    (k : ℕ) → (nth xs k).state ≡ Sweeping → Contains numbers k
-all_listed s [] xs up sound many k found = absurd (none_sweeping (record s { segments = xs }) many k (waits_exists xs k found) found)
-all_listed s (n ∷ rest) xs up sound many k found =
-    let waits : (nth xs n).state ≡ Sweeping = sound n (contains_head n rest) in
-    let there : n < length xs = waits_exists xs n waits in
-    let ys = set xs n (free_segment 0) in
-    let all : sum_by waits_one xs ≡ length rest + 1 = many ∙ omega arith in
-    let change : sum_by waits_one ys + waits_one (nth xs n) ≡ sum_by waits_one xs + 0 = sum_by-set waits_one xs n (free_segment 0) (free_segment 0) there in
-    let one : waits_one (nth xs n) ≡ 1 = ap (λ (state : State). cond (is state Sweeping) 1 0) waits in
-    let fewer : sum_by waits_one ys ≡ length rest = omega (arith, change, one, all) in
-    let sound_rest : (m : ℕ) → Contains rest m → (nth ys m).state ≡ Sweeping = λ m has.
-    let above : n < m = ascends_first n rest up m has in
-    ap (λ (t : Segment). t.state) (nth-set_other xs n m (free_segment 0) (λ e. omega (arith, above, e))) ∙ sound m (contains_tail n rest m has) in
-    elim (cases_eq k n) [
-      | inl e ↦ subst (λ (j : ℕ). Contains (n ∷ rest) j) (sym e) (contains_head n rest)
-      | inr other ↦ contains_tail n rest k (all_listed s rest ys (ascends_rest n rest up) sound_rest fewer k
-          (ap (λ (t : Segment). t.state) (nth-set_other xs n k (free_segment 0) other) ∙ found))
+-- the waiting segments can be listed
+
+waits_or_not : (state : State) → (state ≡ Sweeping) ⊎ (state ≡ Sweeping → ⊥)
+waits_or_not Free = inr (λ e. cc)
+waits_or_not (Current k) = inr (λ e. cc)
+waits_or_not Active = inr (λ e. cc)
+waits_or_not Filled = inr (λ e. cc)
+waits_or_not Sweeping = inl refl
+
+listed_below : (s : Segments) (number : ℕ) → (numbers : List ℕ) × ListsNumbers (λ n. (n < number) × IsWaiting s n) numbers
+listed_below s zero = (
+  [],
+  record { ordered = tt; sound = λ n has. absurd (omega (arith, has.1)); complete = λ n is. absurd (let low = is.0 in omega (arith, low)) },
+)
+listed_below s (suc number) =
+    let below = listed_below s number in
+    elim (waits_or_not (nth s.segments number).state) [
+      | inl waits ↦ (below.0 ++ number ∷ [], below_more s number below.0 waits below.1)
+      | inr other ↦ (below.0, below_skip s number below.0 other below.1)
     ]
+
+pub waiting_listed : (s : Segments) → (numbers : List ℕ) × ListsNumbers (IsWaiting s) numbers
+waiting_listed s =
+    let all = listed_below s (length s.segments) in (
+      all.0,
+      record {
+        ordered = all.1.ordered;
+        sound = λ n has. (all.1.sound n has).1;
+        complete = λ n waits. all.1.complete n (waits_exists s.segments n waits, waits);
+      },
+    )
 
 pub left_is_counted : LeftIsCounted
 left_is_counted words a segments sweeper stands h = sym (counts_stand segments words a Sweeping stands) ∙

@@ -1,6 +1,6 @@
 -- Listing the names of a segment, block after block.
-use Rattle.nmgc_sweep.proofs.Vocabulary.{ℕ, zero, suc, ◌≡◌, ◌≢◌, ◌+◌, ◌-◌, ◌*◌, ◌/◌, ◌%◌, ◌<◌, ◌≤◌, ◌∙◌, inl, inr, refl, sym, ap, subst, arith, List, [], ◌∷◌, ◌++◌, length, drop, append-nil, slice_index_or, Option, Some, mul-le-mul_right, Contains, cases_eq, cases_lt, Contains-append_left, Contains-push, Contains-push_cases, Name, contains_head, contains_cases, Layout, FIRST_PLACE, MIN_BLOCK_WORDS, segment_place, block_size, none_left, large, IsSegmentSize, block_count, few_blocks, Free, Sweeping, nth, Segments, HasNumber, block_place, IsSegments, IsBlockAt, IsWaiting, lies_in, ListsNumbers, ListsBlocks, HaveEntries, entry_of, entry_there, place_above, Sweeper, CanList}
-use Rattle.nmgc_sweep.proofs.{Lists.ascends_push, Lists.distinct_append}
+use Rattle.nmgc_sweep.proofs.Vocabulary.{ℕ, zero, suc, ◌≡◌, ◌≢◌, ◌+◌, ◌-◌, ◌*◌, ◌/◌, ◌%◌, ◌<◌, ◌≤◌, ◌∙◌, inl, inr, refl, sym, ap, subst, arith, List, [], ◌∷◌, ◌++◌, length, length-append, drop, append-nil, append_assoc, Option, Some, mul-le-mul_right, Contains, cases_eq, cases_lt, Contains-append_left, Contains-append_cases, Contains-push, Contains-push_cases, Name, contains_head, contains_cases, Layout, FIRST_PLACE, MIN_BLOCK_WORDS, segment_place, block_size, none_left, large, IsSegmentSize, block_count, few_blocks, Free, Sweeping, nth, Segments, HasNumber, block_place, IsSegments, IsBlockAt, IsWaiting, lies_in, Ascends, ListsNumbers, ListsBlocks, HaveEntries, entry_of, entry_there, place_above, Sweeper, CanList, IsOnPlan}
+use Rattle.nmgc_sweep.proofs.{Lists.ascends_first, Lists.ascends_push, Lists.ascends_rest, Lists.distinct_append}
 
 pub none_listed : (P : ℕ → Type 0) (name : ℕ → Option Name) (xs : List Name) → ListsBlocks P name 0 xs xs
 none_listed P name xs = record {
@@ -119,39 +119,97 @@ few_in_segment s number sound there =
     let words : MIN_BLOCK_WORDS * length (nth s.segments number).marks ≡ s.layout.words = (sound.members number there).words in
     omega (arith, few, words)
 
+-- before the first search nothing is done
+pub starts_on_plan : (planned done : List ℕ) → done ≡ [] → Ascends planned → IsOnPlan planned done 0
+starts_on_plan planned [] none ordered = record {
+  first = refl;
+  ordered = ordered;
+  above = λ n c. absurd (omega (arith, c.1));
+  below = λ n c. omega arith;
+}
+starts_on_plan planned (n ∷ done) none ordered = absurd (let bad : n ∷ done ≡ [] = none in cc)
+
+-- the number of planned segments
+pub left_counted : (planned done : List ℕ) (next : ℕ) → IsOnPlan planned done next → length planned ≡ length done + length (drop (length done) planned)
+left_counted planned done next h = ap (λ (l : List ℕ). length l) h.first ∙ length-append done (drop (length done) planned)
+
 -- the first segment that is left, and the rest
+split_first : (planned : List ℕ) (done : ℕ) → drop done planned ≢ [] → (first : ℕ) × (drop done planned ≡ first ∷ drop (suc done) planned)
+split_first [] zero some = absurd (some refl)
+split_first [] (suc done) some = absurd (some refl)
+split_first (x ∷ xs) zero some = (x, refl)
+split_first (x ∷ xs) (suc done) some = split_first xs done some
 
-drop_first : (numbers : List ℕ) (done number : ℕ) → done < length numbers → number ≡ slice_index_or numbers done number →
-    drop done numbers ≡ number ∷ drop (done + 1) numbers
-drop_first [] done number low e = absurd (omega (arith, low))
-drop_first (x ∷ xs) zero number low e = ap (λ (n : ℕ). n ∷ xs) (sym e)
-drop_first (x ∷ xs) (suc done) number low e = cc (drop_first xs done number (omega (arith, low)) e, let f : suc (done + 1) ≡ suc done + 1 = omega arith in f)
+-- the search for the first segment that is left
+module _ (s : Segments) (x : Sweeper) (planned done : List ℕ) (next : ℕ) (h : IsOnPlan planned done next) (swept : planned ≡ x.seen.swept)
+    (left : drop (length done) planned ≡ x.left) (can : CanList s x) (some : x.left ≢ []) where
+  abbrev ahead : List ℕ
+  ahead = drop (length done) planned
 
-drop_past : (numbers : List ℕ) (done : ℕ) → length numbers ≤ done → drop done numbers ≡ []
-drop_past [] zero past = refl
-drop_past [] (suc done) past = refl
-drop_past (x ∷ xs) zero past = absurd (omega (arith, past))
-drop_past (x ∷ xs) (suc done) past = drop_past xs done (omega (arith, past))
+  abbrev rest : List ℕ
+  rest = drop (suc (length done)) planned
 
-pub some_left : (numbers : List ℕ) (done : ℕ) → drop done numbers ≢ [] → done < length numbers
-some_left numbers done some = elim (cases_lt done (length numbers)) [ inl low ↦ low | inr past ↦ absurd (some (drop_past numbers done past)) ]
+  abbrev split : (first : ℕ) × (ahead ≡ first ∷ rest)
+  split = split_first planned (length done) (λ none. some (sym left ∙ none))
 
-pub left_some : (numbers : List ℕ) (done : ℕ) → done < length numbers → drop done numbers ≢ []
-left_some [] done low e = omega (arith, low)
-left_some (x ∷ xs) zero low e = cc
-left_some (x ∷ xs) (suc done) low e = left_some xs done (omega (arith, low)) e
+  there : Contains ahead split.0
+  there = subst (λ (l : List ℕ). Contains l split.0) (sym split.1) (contains_head split.0 rest)
 
-pub taken : (numbers : List ℕ) (done number : ℕ) (left : List ℕ) → drop done numbers ≡ left → left ≢ [] →
-    number ≡ slice_index_or numbers done number → drop done numbers ≡ number ∷ drop (done + 1) numbers
-taken numbers done number left e some is = drop_first numbers done number (some_left numbers done (λ none. some (sym e ∙ none))) is
+  first_waits : IsWaiting s split.0
+  first_waits = can.waits split.0 (subst (λ (l : List ℕ). Contains l split.0) left there)
 
--- it waits
-pub first_waits : (s : Segments) (x : Sweeper) (numbers : List ℕ) (done first : ℕ) → drop done numbers ≡ x.left → CanList s x → x.left ≢ [] →
-    first ≡ slice_index_or numbers done first → IsWaiting s first
-first_waits s x numbers done first is can some at =
-    let rest : List ℕ = drop (done + 1) numbers in
-    let split : x.left ≡ first ∷ rest = sym is ∙ taken numbers done first x.left is some at in
-    can.waits first (subst (λ (l : List ℕ). Contains l first) (sym split) (contains_head first rest))
+  -- some segment waits, from the next number on
+  pub some_waits : (number : ℕ) × (next ≤ number) × IsWaiting s number
+  some_waits = (split.0, h.below split.0 there, first_waits)
+
+  pub fewer_done : length done < length planned
+  fewer_done =
+      let all = left_counted planned done next h in
+      let one : length ahead ≡ length rest + 1 = ap (λ (l : List ℕ). length l) split.1 ∙ omega arith in
+      omega (arith, all, one)
+
+  -- the first waiting segment from the next number on
+  module _ (number : ℕ) (waits : IsWaiting s number) (from : next ≤ number) (first : (n : ℕ) → next ≤ n → n < number → IsWaiting s n → ⊥) where
+    pub found : ahead ≡ number ∷ rest
+    found =
+        let low : number ≤ split.0 = elim (cases_lt split.0 number) [
+          | inl before ↦ absurd (first split.0 (h.below split.0 there) before first_waits)
+          | inr low ↦ low
+        ] in
+        let among : Contains (done ++ ahead) number =
+        subst (λ (l : List ℕ). Contains l number) h.first (subst (λ (l : List ℕ). Contains l number) (sym swept) (can.planned number waits)) in
+        let same : split.0 ≡ number = elim (Contains-append_cases done ahead number among) [
+          | inl old ↦ absurd (let above = h.above number old in omega (arith, above, from))
+          | inr new ↦ elim (contains_cases split.0 rest number (subst (λ (l : List ℕ). Contains l number) split.1 new)) [
+            | inl e ↦ e
+            | inr later ↦
+                let above = ascends_first split.0 rest (subst (λ (l : List ℕ). Ascends l) split.1 h.ordered) number later in
+                absurd (omega (arith, above, low))
+          ]
+        ] in
+        split.1 ∙ ap (λ (n : ℕ). n ∷ rest) same
+
+    -- once it is done
+    pub rest_left : drop (length (done ++ number ∷ [])) planned ≡ rest
+    rest_left =
+        let many : length (done ++ number ∷ []) ≡ suc (length done) = length-append done (number ∷ []) ∙ omega arith in
+        ap (λ (k : ℕ). drop k planned) many
+
+    pub plan_goes_on : IsOnPlan planned (done ++ number ∷ []) (number + 1)
+    plan_goes_on =
+        let ordered : Ascends (number ∷ rest) = subst (λ (l : List ℕ). Ascends l) found h.ordered in
+        record {
+          first = h.first ∙ ap (λ (l : List ℕ). done ++ l) found ∙ sym (append_assoc done (number ∷ []) rest) ∙
+              ap (λ (l : List ℕ). (done ++ number ∷ []) ++ l) (sym rest_left);
+          ordered = subst (λ (l : List ℕ). Ascends l) (sym rest_left) (ascends_rest number rest ordered);
+          above = λ n c. elim (Contains-push_cases done number n c) [
+            | inl old ↦ let low = h.above n old in omega (arith, low, from)
+            | inr e ↦ omega (arith, e)
+          ];
+          below = λ n c.
+              let low = ascends_first number rest ordered n (subst (λ (l : List ℕ). Contains l n) rest_left c) in
+              omega (arith, low);
+        }
 
 -- there is room for the names of one more segment, and afterwards for the names of the rest
 
@@ -174,7 +232,7 @@ room_for_others count done most words spare after low few room used =
 -- the waiting segments below a number
 
 pub below_skip : (s : Segments) (number : ℕ) (numbers : List ℕ) → (IsWaiting s number → ⊥) →
-    ListsNumbers (λ n. (n < number) × IsWaiting s n) numbers → ListsNumbers (λ n. (n < number + 1) × IsWaiting s n) numbers
+    ListsNumbers (λ n. (n < number) × IsWaiting s n) numbers → ListsNumbers (λ n. (n < suc number) × IsWaiting s n) numbers
 below_skip s number numbers not_waiting h = record {
   ordered = h.ordered;
   sound = λ n c. let was = h.sound n c in let low = was.0 in (omega (arith, low), was.1);
@@ -185,7 +243,7 @@ below_skip s number numbers not_waiting h = record {
 }
 
 pub below_more : (s : Segments) (number : ℕ) (numbers : List ℕ) → IsWaiting s number → ListsNumbers (λ n. (n < number) × IsWaiting s n) numbers →
-    ListsNumbers (λ n. (n < number + 1) × IsWaiting s n) (numbers ++ number ∷ [])
+    ListsNumbers (λ n. (n < suc number) × IsWaiting s n) (numbers ++ number ∷ [])
 below_more s number numbers waits h = record {
   ordered = ascends_push numbers number h.ordered (λ n c. (h.sound n c).0);
   sound = λ n c. elim (Contains-push_cases numbers number n c) [

@@ -378,12 +378,17 @@ more_swept s t u names x y z m n h k = record {
 
 -- the names of all segments to be swept are listed first: no sweep changes another segment
 
-pub can_list : (s : Segments) (x : Sweeper) → AreLeft s x → CanList s x
-can_list s x h = record { waits = h.numbers.sound; room = h.room }
+pub can_list : (s : Segments) (x : Sweeper) (done : List ℕ) → x.seen.swept ≡ done ++ x.left → AreLeft s x → CanList s x
+can_list s x done swept h = record {
+  waits = h.numbers.sound;
+  planned = λ n waits. subst (λ (l : List ℕ). Contains l n) (sym swept) (Contains-append_right done x.left n (h.numbers.complete n waits));
+  room = h.room;
+}
 
 pub can_list_next : (s : Segments) (names : List Name) (x y : Sweeper) → CanList s x → HasListed s names x y → CanList s y
 can_list_next s names x y can h = record {
   waits = λ n has. can.waits n (subst (λ (l : List ℕ). Contains l n) (sym h.left) (contains_tail h.first y.left n has));
+  planned = subst (λ (l : List ℕ). (n : ℕ) → IsWaiting s n → Contains l n) (sym (ap (λ (z : Sweeper). z.seen.swept) h.rest)) can.planned;
   room = subst (λ (k : ℕ). s.layout.words ≤ MIN_BLOCK_WORDS * k) (sym (ap (λ (z : Sweeper). z.most) h.rest)) can.room;
 }
 

@@ -1,8 +1,12 @@
-use Rattle.nmgc_sweep.proofs.{Vocabulary.ℕ, Vocabulary.◌≡◌, Vocabulary.◌∙◌, Vocabulary.length, Vocabulary.refl, Vocabulary.sym, Vocabulary.ap, Vocabulary.subst, Vocabulary.arith, Vocabulary.min, Vocabulary.IsEpoch, Vocabulary.IsInHalf, Vocabulary.SweepsMany, Vocabulary.Sweeper, Vocabulary.HasSwept, Vocabulary.HasJudged, Begins.waiting_counted, Judged.judged, Steps.all_swept, Steps.can_list, Steps.listed_keeps}
+use Rattle.nmgc_sweep.proofs.{Vocabulary.ℕ, Vocabulary.◌≡◌, Vocabulary.◌∙◌, Vocabulary.List, Vocabulary.◌++◌, Vocabulary.length, Vocabulary.refl, Vocabulary.sym, Vocabulary.ap, Vocabulary.subst, Vocabulary.arith, Vocabulary.min, Vocabulary.IsEpoch, Vocabulary.IsInHalf, Vocabulary.SweepsMany, Vocabulary.Sweeper, Vocabulary.HasSwept, Vocabulary.HasJudged, Begins.waiting_counted, Judged.judged, Steps.all_swept, Steps.can_list, Steps.listed_keeps}
 use Rattle.nmgc_sweep.proofs.sweeper.Sweeper.sweep_some.Goals as goal
 
 pub list_first-requires-clause-can : goal.list_first-requires-clause-can
-list_first-requires-clause-can g c = can_list c.args.segments.now c.args.self.now c.requires.left
+list_first-requires-clause-can g c =
+    let done : List ℕ = c.self.inside.done.items in
+    let planned : c.args.self.now.seen.swept ≡ done ++ c.args.self.now.left = sym (ap (λ (s : Sweeper). s.seen.swept) c.self.view_is) ∙
+    c.self.invariant.1.first ∙ ap (λ (s : Sweeper). done ++ s.left) c.self.view_is in
+    can_list c.args.segments.now c.args.self.now done planned c.requires.left
 
 pub list_first-requires-clause-enough : goal.list_first-requires-clause-enough
 list_first-requires-clause-enough g c =
@@ -40,8 +44,7 @@ returns-clause-swept g c =
     let least = c.min-count.ensures in
     let many = c.sweep_many.ensures.count in
     let same : c.sweep_many.result ≡ count = omega (arith, all, waiting, least, many) in
-    let epoch : c.self.inside.epoch ≡ x.seen.epoch = ap (λ (s : Sweeper). s.seen.epoch) c.self.view_is ∙
-    (listed_keeps old c.args.names.now count x y c.list_first.ensures).0 in
+    let epoch : c.self.inside.epoch ≡ x.seen.epoch = ap (λ (s : Sweeper). s.seen.epoch) c.self.view_is in
     let swept : SweepsMany x.seen.epoch count old new = subst (λ (k : ℕ).
     SweepsMany k count old new) epoch (subst (λ (k : ℕ). SweepsMany c.self.inside.epoch k old new) same c.sweep_many.ensures.swept) in
     subst (λ (k : ℕ). HasSwept old new c.args.names.now x y k) (sym same)
@@ -65,8 +68,7 @@ returns-clause-judged g c =
     let least = c.min-count.ensures in
     let many = c.sweep_many.ensures.count in
     let same : c.sweep_many.result ≡ count = omega (arith, all, waiting, least, many) in
-    let epoch : c.self.inside.epoch ≡ x.seen.epoch = ap (λ (s : Sweeper). s.seen.epoch) c.self.view_is ∙
-    (listed_keeps old c.args.names.now count x y c.list_first.ensures).0 in
+    let epoch : c.self.inside.epoch ≡ x.seen.epoch = ap (λ (s : Sweeper). s.seen.epoch) c.self.view_is in
     let swept : SweepsMany x.seen.epoch count old new = subst (λ (k : ℕ).
     SweepsMany k count old new) epoch (subst (λ (k : ℕ). SweepsMany c.self.inside.epoch k old new) same c.sweep_many.ensures.swept) in
     subst (λ (k : ℕ). HasJudged old new c.args.names.now x y k) (sym same) (judged old new c.args.names.now count x y c.requires.left c.list_first.ensures swept)
