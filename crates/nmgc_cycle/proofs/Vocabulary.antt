@@ -1,5 +1,5 @@
 -- All names of std, of the crates below and of this crate's definitions that the proofs use.
-pub use Rattle.nmgc_alloc.specs.{AllocState.AllocState, AllocState.Cells, AllocState.IsIn, AllocState.LiesIn, AllocState.NoneIs, AllocState.SweepsEach, AllocState.SweepsSome, AllocState.all_empty, AllocState.all_retired, AllocState.cells, AllocState.cycle_begun, AllocState.name_in, AllocState.no_cells, AllocState.retired_state, AllocState.prepared, AllocState.Segments, AllocState.block_place, AllocState.is, AllocState.nth, AllocState.StandsFor, Invariant.HasBlock, AllocState.carried_over, CycleSteps.retired, Segments.HasNone, Segments.IsCurrent, Segments.IsMember, Segments.IsSegments, Segments.IsWaiting, Segments.all_free, Settled.AreSettled, laws.Cells.begun_names, laws.Cells.retired_cells, laws.Cells.retired_names, laws.Common.prepared_current, laws.Common.prepared_in, laws.Counts.none_sweeping, laws.Counts.sweeping_none, laws.Keeping.carried_stands, laws.Keeping.counts_stand, laws.Numbers.nth-map, laws.Numbers.nth_free, laws.OneState.first_cells, laws.OneState.first_stands, laws.Sweeping.none_to_sweep, laws.Turning.prepared_stands, laws.Turning.retired_stands}
+pub use Rattle.nmgc_alloc.specs.{AllocState.AllocState, AllocState.Cells, AllocState.IsIn, AllocState.LiesIn, AllocState.NoneIs, AllocState.SweepsEach, AllocState.SweepsSome, AllocState.all_empty, AllocState.all_retired, AllocState.cells, AllocState.cycle_begun, AllocState.name_in, AllocState.no_cells, AllocState.retired_state, AllocState.prepared, AllocState.Segments, AllocState.block_place, AllocState.is, AllocState.nth, AllocState.StandsFor, Invariant.HasBlock, AllocState.carried_over, CycleSteps.retired, Segments.HasNone, Segments.IsCurrent, Segments.IsMember, Segments.IsSegments, Segments.IsWaiting, Segments.all_free, Settled.AreSettled, laws.Cells.begun_names, laws.Cells.retired_cells, laws.Cells.retired_names, laws.Common.prepared_current, laws.Common.prepared_in, laws.Keeping.carried_stands, laws.Keeping.counts_stand, laws.Numbers.nth-map, laws.Numbers.nth_free, laws.OneState.first_cells, laws.OneState.first_stands, laws.Sweeping.none_to_sweep, laws.Turning.prepared_stands, laws.Turning.retired_stands}
 pub use Rattle.nmgc_stop_spec.specs.{Cycle.Cycle, Cycle.IsKeptIn, Cycle.IsPlaceAtStop, Cycle.IsPromoted, Cycle.PlacesEach, Kept.IsKeptObject, Kept.interval_of, Nurseries.AreEmpty, Nurseries.AreUsed, Nurseries.LieInOrder, Nurseries.nursery_at, Occupied.AreBlocks, Occupied.KeepsMarks, Remembers.Remembers, Stopped.IsRoundOf, Stopped.IsSettled, Stopped.IsStopped, Stopped.Stopped, Stopped.young_base, laws.Blocks.is_block}
 pub use Rattle.nmgc_collector_laws.specs.{Calls.AddIsMarking, Calls.SnapshotIsMarking, Closes.ClosingIsPaced, Closes.ClosingIsSoon, Collector.AreAtRest, Collector.AreNurseries, Collector.EachMutator, Collector.HasReserve, Collector.HoldsInCycle, Collector.IsAfterRound, Collector.IsAtStop, Collector.IsEmptied, Collector.IsMarking, Collector.IsPacedAfterRound, Collector.IsPacedAtStop, Collector.Matches, CycleCloses.HasClosed as IsClosedBy, Drops.DropsFreed, Drops.FreesUntracked, Drops.StopFreesUntracked, Drops.SweptHoldsAtStop, Heaps.AreShown, Heaps.HeapRests, Heaps.IsRoundFrom, Heaps.MarkedHolds, Joins.HaveJoinedList, Joins.HaveMoved, Joins.IsAliveAt, Joins.JoinersAreNew, Joins.JoiningLists, Joins.weak_header, Keeps.HasLeft, Keeps.PaceAtStop, Keeps.PaceBegins, Keeps.Scans, Keeps.ShowEntries, Marker.IsCoreOf, Owed.gathered, Prepares.StopBegins, Prepares.StopIsPrepared, Prepares.all_prepared, Resolves.ClosedCycleSweeps, Resolves.ClosedHolds, Resolves.FinalisersInHand as HaveJoinedInRun, Resolves.FinishMayResolve, Resolves.IsClosingOf, Resolves.IsStopOf, Resolves.ResolveCloses, Resolves.ShowsDeaths, Resolves.closed_state, Resolves.finished_on, Resolves.stop_opening, Rest.IsAtRest, Rest.IsResting, RestMarking.IsAtRestMarking as RestsBeside, RestMarking.IsMachineAtRest, RestMarking.opening_beside, RestMarking.with_rows, Seen.CollectorSeen, Seen.MutatorSeen, Seen.end_of, Seen.ends_of, Seen.finalised_in, Seen.nurseries_of, Seen.recorded_in, Seen.young_weaks_in, Sweeps.HasPlaced, Sweeps.MarkedWait, Sweeps.all_carried, Tie.CoreHasSnapshot, Tie.RoundBeginsTied, Turn.RoundIsHistory, Turn.RoundIsStopped, Turn.RoundListsFinalised, Turn.SlicesAreDone, Turn.SlicesAreGathered, Turn.stop_after, Worked.Done, Worked.HaveWorked, Worked.ListsFinalised, Worked.finalised_of, Worked.recorded_of, laws.Longer.stops_are_of_longer}
 pub use Rattle.nmgc_collector_laws.specs.laws.Remembering.{round_is_remembered}
@@ -19,14 +19,14 @@ pub use Rattle.nmgc_run_laws.specs.{Course.CyclesBeginInCourse, Course.IsInCours
 pub use Rattle.nmgc_run_spec.specs.{Run.ClosesNow, Run.ClosesOrWaits, Run.IsForcedSoon, Run.IsSoon, Run.IsRound, Run.answered, Run.noted, Run.AreTurns, Run.IsRun, Run.IsTurn, Run.Run, Run.AreRowsOf, Run.Turn, Run.last_state, Run.state_after, Run.ends_slice, Run.has_left, Run.is_collect, Run.is_full, Run.rest_of, Run.slice, Run.slice_of, Run.slices, Run.Plan, Run.Progress, Run.State, Run.cycle_started, Run.free_count, Run.free_count as run_free, Run.idle, Run.is_idle, Run.layout_of, Run.marking, Run.next_cycle, Run.phase_of, Run.plan_of, Run.start, Run.sweeping, Run.BeginsOrWaits, Run.DoesFullCycle, Run.EndsOrWaits, Run.Finishes, Run.IsCensus, Run.IsCycleDue, Run.IsFullDue, Run.IsStop, Run.IsSwept, Run.Proceeds, Run.Promotes, Run.answer_of, Run.is_short, Run.stop_row, Lawful.FitBlocks, Terms.HasAllRegisters, Heap.HeapStandsFor, AfterRound.HoldsAfterRound, Heap.HoldsAtStop, Terms.queues_of, Terms.registers_of, Terms.serials_of, Heap.snapshots, Terms.SweepsBeside, Terms.own_rows, AfterRound.with_turn, Terms.is_next, AfterRound.program_of, Terms.some_asks, Terms.reserve_of, Terms.waiting_count, Terms.SweepsRest, Terms.is_done, Terms.with_all_retired, AtStop.IsLawfulAtStop, Lawful.IsRunOf}
 pub use Rattle.nmgc_script.specs.{declared.script.Config.Config, declared.script.Script.Script, laws.Versions.segments_few, laws.Versions.threads_few, laws.Versions.total_few}
 pub use Rattle.nmgc_segment.specs.{Marks.IsEpoch, Marks.epoch_of, Segment.Segment, Segment.free_segment, Segment.mark_of, laws.Common.epoch_sound}
-pub use Rattle.nmgc_snapshot_laws.specs.State.{State as Core, opening, unmarked}
+pub use Rattle.nmgc_snapshot_laws.specs.State.{State as Core, newest_first, opening_in, unmarked}
 pub use Rattle.nmgc_sweep.specs.{NameTable.AreNamed, NameTable.HaveEntries, NameTable.HaveNoted, NameTable.entry_of, NameTable.named_at, Statements.ClosingBeginsWork, Statements.EndShowsCensus, Statements.IsClosedNow, Statements.KeepsWaiting, Statements.LeftIsCounted, Statements.LeftStays, Statements.StartNotesSegments, Statements.ShowsCensus, Sweeper.AreLeft, Sweeper.HasNotes, Sweeper.Sweeper, Sweeper.turned, Sweeping.IsSweeping, Work.HasBegun, Work.IsAtWork, laws.NameTable.low_entry, laws.NameTable.named_begun, laws.NameTable.named_first, laws.NameTable.named_noted, laws.NameTable.named_retired, laws.NameTable.named_swept, laws.NameTable.one_noted}
 pub use Rattle.nmgc_updrem.specs.{Lines.Clears, Lines.HasMetSo, Lines.IsLevelSo, Lines.TakesRestSo, Rings.AreNew, Rings.AtLine, Rings.HasLooked, Rings.HasPolled, Rings.HavePolled, Rings.IsLine, Rings.IsPair, Rings.Receiver, Rings.Sender, Rings.in_ring, declared.block.TheConstants.BLOCK_ENTRIES, declared.ring.TheConstants.RING_BLOCKS, laws.Lines.line_goes_on, laws.Lines.line_is, laws.Lines.new_line, laws.Polls.at_polled, laws.Polls.polled_all_none, laws.Polls.polled_all_then}
 pub use Rattle.nmgc_weak.specs.{Closes.DeathsHaveRoom, Closes.LeavingLists, Queues.HaveRoom, Queues.weak_count, Resolve.AreDeaths, Resolve.CanResolve, Resolve.HasResolved, Rows.left_of, Weaks.Weaks, Weaks.alive_of, Weaks.is_alive, Weaks.names_of, Weaks.place_of, Weaks.places_of, Weaks.value_place, declared.weaks.Death.Death, declared.weaks.OldWeak.OldWeak, laws.Common.names_same, laws.Common.of_place as of_places, laws.Left.left_both, laws.Left.left_had, laws.Left.left_is_alive, laws.Left.left_more}
 pub use Rattle.nmgc_world_laws.specs.{Reachable.IsSound, laws.Deaths.closed_mutators, laws.Deaths.closed_names, laws.Deaths.closed_serials, laws.Deaths.closed_world, laws.HeldSteps.absent, laws.NewWorlds.each_new, laws.NewWorlds.new_is_world, laws.NewWorlds.new_nodes, laws.NodeLaws.get-append_cases, laws.Reached.world_holds, laws.Weaks.not_array as no_weak, laws.Weaks.weak_maker, laws.Worlds.refill_whole}
 pub use Rattle.nmgc_world_spec.specs.{World.Fits, World.words_made, World.shared_name, World.World, World.new_mutator, World.new_world, World.node_of, World.serial_of, Reach.IsLegal, Reach.IsOrderOf, Reach.Row, Reach.replayed, Reach.rows_of, Reach.Ascends, Reach.Counts, Reach.IsAlive, Reach.IsAliveWeak, Reach.IsBefore, Reach.IsInOrder, Reach.closed, Known.IsWorld, declared.command.Command.Command, declared.command.Command.TheVariants.Collect, declared.command.Command.TheVariants.Full, declared.command.Command.TheVariants.Yield, declared.command.Reply.Reply, declared.mutator_state.MutatorState.MutatorState, declared.node.Node.Node, declared.node.Node.TheVariants.Arr, declared.node.Node.TheVariants.Con, declared.node.Node.TheVariants.Stack, declared.node.Node.TheVariants.Thunk, declared.node.Node.TheVariants.Var, declared.node.Node.TheVariants.Weak, declared.node.Parts.Parts, declared.value.Name.Name, declared.value.Value.Value, declared.value.Value.TheVariants.Nil, laws.Orders.in_order_cons, laws.Orders.in_order_first, laws.Orders.in_order_rest, World.HasRegistersBelow}
 pub use Rattle.std.proofs.{Common.Bool, Common.Global, Common.IsTrue, Common.List, Common.None, Common.Option, Common.Some, Common.[], Common.add-one, Common.ap, Common.append-nil, Common.append_assoc, Common.arith, Common.cond, Common.drop, Common.drop-cons, Common.eqb, Common.false, Common.get_or, Common.inl, Common.inr, Common.length, Common.length-append, Common.length-set, Common.map, Common.min, Common.mul-le-mul_right, Common.refl, Common.replicate, Common.rules, Common.set, Common.slice_index, Common.slice_index_or, Common.subst, Common.suc, Common.sym, Common.take, Common.true, Common.vec_capacity, Common.vec_len, Common.zero, Common.ℕ, Common.◌*◌, Common.◌++◌, Common.◌+◌, Common.◌-◌, Common.◌<◌, Common.◌^◌, Common.◌↔◌, Common.◌∙◌, Common.◌∷◌, Common.◌≡◌, Common.◌≢◌, Common.◌≤◌, Common.◌⊎◌, Math.ListN.get_or-map, Math.ListN.length-replicate, Common.take_at, Math.Seq.drop-append-le, lemmas.List.take-append-drop, lemmas.Option.slice_get_read, Common.drop_at}
-pub use Rattle.std.proofs.lemmas.{Bool.and_parts, Bool.cases_eq, Bool.cases_lt, Bool.eq-eqb, Bool.eqb-true, Bool.false≢true, Bool.le-leb, Bool.le-ltb, Bool.lt-ltb, Bool.ltb-false, Bool.ltb-true, Bool.ne_eqb, Grind.common_steps, Grind.flat_map-append, List.Sums.sum_by-cons, List.append_cancel_left, List.drop-drop, List.drop_all, List.get_or-append-add, List.get_or-append_right, List.get_or-replicate, List.get_or-set_other, List.get_or-set_same, List.get_or_append_left, List.get_or_default, List.get_or_past, List.length-drop, List.length-map, List.length-take-le, List.map-append, List.nil_from_length, List.set-get_or, List.set-set, List.take_all, List.take_more, List.with_items_is, List.Edits.map_over_more, List.Elements.All-append, List.Elements.All-cons, List.Elements.All-drop, List.Elements.All-get_or, List.Elements.All-head, List.Elements.All-nil, List.Elements.All-replicate, List.Elements.All-tail, List.Elements.Contains-get_or, List.Folds.Any-from_list_any, List.Folds.list_any_at, List.Sums.count_by-le-length, List.Sums.length-filter, List.Sums.sum_by-cons, Option.get_or_from_slice_get, Option.slice_get-get_or, Option.slice_get-map, Option.slice_get_within, Result.IfOk-weaker, Result.on_ok_weaker}
+pub use Rattle.std.proofs.lemmas.{Bool.and_parts, Bool.cases_eq, Bool.cases_lt, Bool.eq-eqb, Bool.false≢true, Bool.le-leb, Bool.le-ltb, Bool.lt-ltb, Bool.ltb-false, Bool.ltb-true, Bool.ne_eqb, Grind.common_steps, Grind.flat_map-append, List.Sums.sum_by-cons, List.append_cancel_left, List.drop-drop, List.drop_all, List.get_or-append-add, List.get_or-append_right, List.get_or-replicate, List.get_or-set_other, List.get_or-set_same, List.get_or_append_left, List.get_or_default, List.get_or_past, List.length-drop, List.length-map, List.length-take-le, List.map-append, List.nil_from_length, List.set-get_or, List.set-set, List.take_all, List.take_more, List.with_items_is, List.Edits.map_over_more, List.Elements.All-append, List.Elements.All-cons, List.Elements.All-drop, List.Elements.All-get_or, List.Elements.All-head, List.Elements.All-nil, List.Elements.All-replicate, List.Elements.All-tail, List.Elements.Contains-get_or, List.Folds.Any-from_list_any, List.Folds.list_any_at, List.Sums.count_by-le-length, List.Sums.length-filter, List.Sums.sum_by-cons, Option.get_or_from_slice_get, Option.slice_get-get_or, Option.slice_get-map, Option.slice_get_within, Result.IfOk-weaker, Result.on_ok_weaker}
 pub use Rattle.std.specs.{List.flat_map, List.list_any, List.refill, Prelude.All, Prelude.Contains, Prelude.Err, Prelude.IfSome, Prelude.IsSome, Prelude.Ok, Prelude.OnErr, Prelude.OnOk, Prelude.Result, Prelude.count_by, Prelude.filter, Prelude.if◌then◌else◌, Prelude.is_some, Prelude.nat_le, Prelude.nat_lt, Prelude.not, Prelude.option_map, Prelude.slice_get, Prelude.slice_set, Prelude.sum_by, Prelude.◌&&◌, Prelude.◌/◌, Prelude.◌==◌, Prelude.◌||◌, Vec.with_items, VecDeque.deque_capacity, VecDeque.deque_len, declared.vec.Vec.Vec, Prelude.IfNone, Prelude.IfOk, Prelude.option_to_list}
 pub use denote.Enum.Bare.{same_false, same_true}
 unfoldable pub use Rattle.nmgc_cycle.specs.Bound.{commands_left}

@@ -12,7 +12,7 @@ use Rattle.nmgc_segment.specs.Marks.{epoch_of}
 use Rattle.nmgc_sweep.specs.{NameTable.HaveEntries, Sweeper.AreLeft, Sweeper.turned, Work.HasBegun, Work.HasSwept}
 use Rattle.nmgc_cycle.specs.{declared.collector.Collector.Collector, declared.progress.Marking.Marking, declared.progress.Progress.Progress, declared.progress.Sweeping.Sweeping, Roots.queues_in, Lined.IsLined, Lined.HaveForgotten, Listed.FinalisersQueued, Listed.HaveQueueRoom, Shown.died, Shown.seen_mutator, Shown.words_in}
 use Rattle.nmgc_cycle.specs.declared.progress.Progress.TheVariants as progress
-use Rattle.nmgc_snapshot_laws.specs.State.{opening}
+use Rattle.nmgc_snapshot_laws.specs.State.{newest_first, opening_in}
 use Rattle.nmgc_world_spec.specs.declared.value.Name.{Name}
 use Rattle.nmgc_object.specs.FinQueue.{FinQueue}
 use Rattle.nmgc_weak.specs.{declared.weaks.Death.Death, declared.weaks.OldWeak.OldWeak, Queues.HaveRoom, Resolve.CanResolve, Resolve.HasResolved, Weaks.Weaks, Weaks.places_of}
@@ -170,17 +170,17 @@ row_of number stop w dead = record {
   kept = w.kept;
 }
 
--- a cycle swept to its end: it sweeps, and no segment waits any more
+-- a cycle swept to its end: it sweeps, and its sweeper has no segment left
 abbrev pub IsSwept : Collector → Type 0
-IsSwept c = (w : Sweeping) × (c.cycle.progress ≡ progress.Sweeping w) × HasNone sought.Sweeping c.heap.segments
+IsSwept c = (w : Sweeping) × (c.cycle.progress ≡ progress.Sweeping w) × (w.sweeper.left ≡ [])
 
 -- end, a step of a stop: a cycle swept to its end ends, with its row; the collector keeps the sweeper's counts of passes
 abbrev pub Ends : ℕ → Progress → Collector → Collector → Type 0
-Ends stop (progress.Sweeping w) old new = (HasNone sought.Sweeping old.heap.segments ×
+Ends stop (progress.Sweeping w) old new = ((w.sweeper.left ≡ []) ×
     (new ≡ record old {
       cycle = record old.cycle { progress = progress.Idle; turns = w.sweeper.turns; upper_turns = w.sweeper.upper_turns };
       rows = record old.rows { cycles = old.rows.cycles ++ row_of old.cycle.begun stop w (died old.heap.weaks.deaths) ∷ [] };
-    })) ⊎ ((HasNone sought.Sweeping old.heap.segments → ⊥) × (new ≡ old))
+    })) ⊎ ((w.sweeper.left ≡ [] → ⊥) × (new ≡ old))
 Ends stop _ old new = new ≡ old
 
 -- a cycle that is marking before and after a stop: only its marker changed, and the answer of its last work is kept
@@ -221,7 +221,7 @@ pub record StartsMarking (stop : ℕ) (old new : Collector) (marking : Marking) 
   pub marked : HasMarked (all_prepared old.heap.segments) new.heap.segments (blank (next_epoch old) (most_blocks old.heap.segments.layout)) marking.marker 0
   pub tied : (o : Opening) →
       IsBeginning o (all_prepared old.heap.segments) (next_epoch old) (words_in old.heap.words) (registers_of old.mutators.items)
-      (queues_in old.mutators.items) → IsTied o (marks_of (opening o.core.snapshot)) new.heap.segments marking.marker
+      (queues_in old.mutators.items) → IsTied o (marks_of (opening_in newest_first o.core.snapshot)) new.heap.segments marking.marker
 
 -- a started cycle: the roots were marked, and then the collector's progress and its count of cycles were set
 pub record HasStarted (stop : ℕ) (old new : Collector) : Type 0 where

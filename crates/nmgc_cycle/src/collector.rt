@@ -27,7 +27,7 @@ ghost use Rattle.nmgc_run_spec.specs.{Run.plan_of, Run.layout_of as planned_layo
 ghost use Rattle.nmgc_collector_laws.specs.{Seen.end_of as reported_end, Heaps.seen_mutator};
 ghost use Rattle.nmgc_cycle.specs.{Shown.report_of, Shown.report_row, Shown.report_cycles, Shown.HasNamesOnce, Observed.FailedStop, Observed.ObservedPart, Observed.ObservedRun, Observed.ObservedStop, Shown.turns_of, Shown.upper_turns_of, Lined.IsLined, Keeps.IsFresh, Keeps.HasEnded};
 
-use crate::name_notes::put_rows_in_order;
+use crate::ended_cycles::EndedCycles;
 use crate::observer::{Event, KeptRows, Observer, RunFault};
 use crate::past_rows::PastRows;
 use crate::progress::Progress;
@@ -404,7 +404,8 @@ impl Collector {
 
     /// Turns the collector into the report of its run, which is lawful. Requires that the last stop ended the run with `end`,
     /// and that `kept` has the run's rows. The report has these rows, the collector's words and segments, and each mutator's
-    /// registers, queue and serial as they are. Takes no memory, and copies no word of the heap.
+    /// registers, queue and serial as they are. Puts the names in the cycles' rows in order. Takes no memory, and copies no word
+    /// of the heap.
     pub fn into_report(self, kept: KeptRows, end: End) -> Report
         requires ended { (script : ScriptSeen) × HasEnded script self end }
         requires kept { (kept.rounds ≡ self.rows.rounds) × (kept.stops ≡ self.rows.stops) × (kept.cycles ≡ report_cycles self) }
@@ -436,6 +437,7 @@ impl Collector {
             stops,
             cycles,
         } = kept;
+        let cycles = cycles.into_rows();
         let words = words.unwrap().close();
         let ends = all_ends(mutators, report.ends);
         Report {
@@ -451,16 +453,15 @@ impl Collector {
     }
 }
 
-/// Gives an observer the rows of a stop, after putting the names in the cycles' rows in order. Requires that no row has a name
-/// twice. Takes no memory of its own, but time to sort the spans of names.
+/// Gives an observer the rows of a stop. Requires that no row has a name twice. Takes no memory of its own.
 pub(crate) fn observe_stop<J: Observer>(observer: &mut J, rows: StopRows) -> Result<(), RunFault>
     requires { All HasNamesOnce rows.cycles }
     ensures ok { OnOk result (ObservedStop J.steps observer.old rows.stop (map report_row rows.cycles) observer.new) }
     ensures err { OnErr result (FailedStop J.fails observer.old rows.stop (map report_row rows.cycles) observer.new) }
 {
-    let StopRows { stop, mut cycles } = rows;
-    put_rows_in_order(cycles.items_mut());
+    let StopRows { stop, cycles } = rows;
     if let Some(row) = stop {
+        let cycles = EndedCycles::of(cycles);
         observer.observe(Event::Stop { row, cycles })?;
     }
     Ok(())

@@ -9,7 +9,7 @@
 //!
 //! Easy to get wrong: while a cycle marks, the marker gets the remembered entries at each stop, even if the cycle isn't
 //! closed. They can't prevent a closing. It depends only on the marker's work in the last round, and scans their objects.
-ghost use Rattle.std.specs.Prelude.{ℕ, ◌≡◌, ◌↔◌, ◌+◌, ◌*◌, ◌<◌, ◌≤◌, ◌^◌, IfOk, IfSome, IfNone, OnOk, IsSome, IsTrue, Some, length, slice_get};
+ghost use Rattle.std.specs.Prelude.{ℕ, ◌≡◌, ◌↔◌, ◌+◌, ◌*◌, ◌<◌, ◌≤◌, ◌^◌, [], IfOk, IfSome, IfNone, OnOk, IsSome, IsTrue, Some, length, slice_get};
 ghost use Rattle.nmgc_object.specs.declared.layout.TheConstants.{FIRST_PLACE};
 ghost use Rattle.nmgc_alloc.specs.Segments.{IsSegments};
 ghost use Rattle.nmgc_mark.specs.Marker.{HasRoomToMark};
@@ -205,17 +205,17 @@ impl Collector {
         sweeping
     }
 
-    // Whether a cycle sweeps and no segment waits to be swept any more.
+    // Whether a cycle sweeps and its sweeper has swept all its segments, so that no segment waits any more.
     fn is_swept(&self) -> bool
         ensures { IsTrue result ↔ IsSwept self.now }
     {
-        match self.cycle.progress {
-            Progress::Sweeping(_) => self.heap.segments.sweep_count() == 0,
+        match &self.cycle.progress {
+            Progress::Sweeping(sweeping) => sweeping.sweeper.is_finished(),
             Progress::Idle | Progress::Marking(_) => false,
         }
     }
 
-    // If a cycle sweeps and no segment waits, ends the cycle: hands its row on, and keeps the sweeper's counts of passes.
+    // If a cycle has swept all its segments, ends it: hands its row on, and keeps the sweeper's counts of passes.
     pub(crate) fn try_end(&mut self, stop: u32, rows: &mut List<CycleRow>) -> Result<(), NoMemory>
         ensures ends { OnOk result (Ends stop self.old.cycle.progress self.old self.new) }
         ensures handed { OnOk result (HandsOn stop self.old.rows.cycles self.new.rows.cycles rows.old rows.new) }
@@ -276,7 +276,7 @@ impl Collector {
         Ok(())
     }
 
-    // Prepares the segments, starts a cycle's marking, and returns the cycle. The sweeper notes the waiting segments, and the
+    // Prepares the segments, starts a cycle's marking, and returns the cycle. The sweeper plans the waiting segments, and the
     // marker marks the objects that the roots refer to. The mutators' queues get room for the closing's finalisers.
     fn start_marking(&mut self, stop: u32) -> Result<Marking, NoMemory>
         requires words { IsSome self.old.heap.words }
@@ -317,13 +317,15 @@ impl Collector {
     }
 }
 
-// Returns the row of a cycle that ends at a stop, with the names of the weak pointers that died at its closing.
+// Returns the row of a cycle that ends at a stop, with the names of the weak pointers that died at its closing. Its sweeper
+// must have swept all segments.
 fn row_of(
     number: u32,
     sweeping: Sweeping,
     dead: List<Name>,
     stop: u32,
 ) -> Result<CycleRow, NoMemory>
+    requires { sweeping.sweeper.left ≡ [] }
     ensures { IfOk result (λ row. row ≡ row_shown number stop sweeping dead) }
 {
     let Sweeping {

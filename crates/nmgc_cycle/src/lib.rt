@@ -27,6 +27,7 @@ mod asking;
 mod collector;
 mod command_queue;
 mod cycle;
+mod ended_cycles;
 mod event_laws;
 mod full;
 mod name_notes;
@@ -46,8 +47,8 @@ mod worker;
 
 pub use collector::Collector;
 pub use command_queue::CommandQueue;
+pub use ended_cycles::EndedCycles;
 pub use event_laws::events_are_the_report;
-pub use name_notes::put_rows_in_order;
 pub use observer::{Event, Forgetful, KeptRows, Observer, RunFault};
 pub use program_laws::lists_run_as_scripts;
 pub use program_run::{Bounded, MOST_COMMANDS, Parks, ProgramRun};

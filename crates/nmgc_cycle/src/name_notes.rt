@@ -29,7 +29,7 @@ fn put_row_in_order(row: &mut CycleRow)
 
 /// Puts each row's lists of names in order. Requires that no list has a name twice. Takes no memory, but time to sort the
 /// spans.
-pub fn put_rows_in_order(rows: &mut [CycleRow])
+pub(crate) fn put_rows_in_order(rows: &mut [CycleRow])
     requires { All HasNamesOnce rows.old }
     ensures { rows.new ≡ map report_row rows.old }
 {

@@ -5,21 +5,19 @@
 //! `specs/Observed.antt`). `KeptRows` keeps the rows for a report, and `Forgetful` forgets them.
 //!
 //! Easy to get wrong: an observer that fails may have taken a part of its last event (`fails`). The run ends there.
-ghost use Rattle.std.specs.Prelude.{◌≡◌, [], ◌++◌, OnOk, OnErr};
+ghost use Rattle.std.specs.Prelude.{◌≡◌, [], OnOk, OnErr};
 ghost use Rattle.nmgc_cycle.specs.{declared.observer.Event.Event as EventSeen, Observed.KeepsEvent};
 
-use nmgc_journal::{CycleRow, RoundRows, StopRow};
+use crate::ended_cycles::EndedCycles;
+use nmgc_journal::{RoundRows, StopRow};
 use nmgc_lists::{List, NoMemory};
 use std::alloc::Global;
 
 /// An event of a run.
 #[derive(Drop)]
 pub enum Event {
-    /// A stop was done: its row, and the rows of the cycles that ended there, each with its names in order.
-    Stop {
-        row: StopRow,
-        cycles: List<CycleRow>,
-    },
+    /// A stop was done: its row, and the rows of the cycles that ended there.
+    Stop { row: StopRow, cycles: EndedCycles },
     /// A round was done, with these replies.
     Round(RoundRows),
 }
@@ -57,8 +55,8 @@ pub trait Observer {
 pub struct KeptRows {
     pub rounds: List<RoundRows>,
     pub stops: List<StopRow>,
-    /// The cycles that ended, each with its names in order.
-    pub cycles: List<CycleRow>,
+    /// The cycles that ended.
+    pub cycles: EndedCycles,
 }
 
 impl KeptRows {
@@ -69,20 +67,9 @@ impl KeptRows {
         KeptRows {
             rounds: List::new(alloc),
             stops: List::new(alloc),
-            cycles: List::new(alloc),
+            cycles: EndedCycles::none(alloc),
         }
     }
-}
-
-// Adds the rows of `more` at the end of `rows`.
-fn add_cycles(rows: &mut List<CycleRow>, more: List<CycleRow>) -> Result<(), NoMemory>
-    ensures { OnOk result (rows.new ≡ rows.old ++ more) }
-{
-    let mut more = more;
-    while let Some(row) = more.take_first() {
-        rows.push(row)?;
-    }
-    Ok(())
 }
 
 impl Observer for KeptRows {
@@ -94,7 +81,7 @@ impl Observer for KeptRows {
         match event {
             Event::Stop { row, cycles } => {
                 self.stops.push(row)?;
-                add_cycles(&mut self.cycles, cycles)?;
+                self.cycles.append(cycles)?;
             }
             Event::Round(rows) => self.rounds.push(rows)?,
         }

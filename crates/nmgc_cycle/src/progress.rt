@@ -5,8 +5,8 @@
 //! before each segment that it sweeps. It counts these passes through the whole run: marker and sweeper hand the count on.
 //! Segments are swept in two halves. The upper half has a further thread, with its own number and count at the gate.
 //!
-//! The sweeper starts as its cycle begins, to note the segments that are to be swept, and sweeps once the cycle is closed. It
-//! reads the names of the objects in these segments from the array of names, to which nothing is written in a round.
+//! The sweeper starts as its cycle begins, since the segments that wait then are to be swept, and sweeps once the cycle is
+//! closed. It reads the names of the objects in these segments from the array of names, to which nothing is written in a round.
 ghost use Rattle.std.specs.Prelude.{◌≡◌, ◌≤◌, length};
 ghost use Rattle.nmgc_updrem.specs.Rings.{HavePolled};
 ghost use Rattle.nmgc_cycle.specs.{Shown.phase_in, Shown.is_marking_in, Cycles.CanHelp, Cycles.HasHelped};
@@ -28,7 +28,7 @@ pub struct Marking {
     pub marker: Marker,
     /// The answer of the marker's last work.
     pub last: Work,
-    /// The sweeper, which noted the segments to be swept as the cycle began.
+    /// The sweeper, which is to sweep the segments that waited as the cycle began.
     pub sweeper: Sweeper,
 }
 

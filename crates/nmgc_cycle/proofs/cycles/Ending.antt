@@ -1,9 +1,24 @@
 -- The end of a cycle at a stop: its row has its census, and the collector represents the state without a cycle in progress.
-use Rattle.nmgc_cycle.proofs.Vocabulary.{ℕ, ◌≡◌, List, [], ◌∷◌, ◌++◌, refl, sym, ap, subst, ◌∙◌, inl, inr, append-nil, World, HasNone, none_to_sweep, Represents, NoNode, IsTracked, CycleRow, IsCensus, EndsOrWaits, IsSwept, HoldsInCycle, IsPacedAtStop, IsInCourse, HoldsAtStop, snapshots, ends_of, IsSoundState, State, Plan, Progress, idle, marking, sweeping, phase_of, plan_of, layout_of, Cycle, Script, EndShowsCensus, ShowsCensus, IsAtWork, map-append, Collector, Doing, Sweeping, row_of, Ends, Sweeps, seen, cycle_in, phase_in, died, report_row, report_cycles, StandsAt, EndLeads, nothing_in}
+use Rattle.nmgc_cycle.proofs.Vocabulary.{ℕ, ◌≡◌, List, [], ◌∷◌, ◌++◌, refl, sym, ap, subst, arith, ◌∙◌, inl, inr, append-nil, Contains, contains_head, World, Segments, Sweeper, AreLeft, HasNone, none_to_sweep, Represents, NoNode, IsTracked, CycleRow, IsCensus, EndsOrWaits, IsSwept, HoldsInCycle, IsPacedAtStop, IsInCourse, HoldsAtStop, snapshots, ends_of, IsSoundState, State, Plan, Progress, idle, marking, sweeping, phase_of, plan_of, layout_of, Cycle, Script, EndShowsCensus, ShowsCensus, IsAtWork, map-append, Collector, Doing, Sweeping, row_of, Ends, Sweeps, seen, cycle_in, phase_in, died, report_row, report_cycles, StandsAt, EndLeads, nothing_in}
 use Rattle.nmgc_alloc.specs.declared.search.Category.TheVariants as sought
 use Rattle.nmgc_journal.specs.declared.report.Phase.TheVariants as phase
 use Rattle.nmgc_cycle.specs.declared.progress.Progress.TheVariants as doing
-use Rattle.nmgc_cycle.proofs.{cycles.StepReady.none_back, stops.Reporting.kept_reported}
+use Rattle.nmgc_cycle.proofs.{cycles.StepReady.none_back, lengths.StopFew.waits_in, stops.Reporting.kept_reported}
+
+-- no segment is left exactly if none waits
+
+none_waits : (segments : Segments) (sweeper : Sweeper) → AreLeft segments sweeper → sweeper.left ≡ [] → HasNone sought.Sweeping segments
+none_waits segments sweeper h none i lt waits =
+    let there : Contains [] i = subst (λ (l : List ℕ). Contains l i) none (h.numbers.complete i waits) in
+    omega (arith, there.1)
+
+nothing_left : (left : List ℕ) → ((n : ℕ) → Contains left n → ⊥) → left ≡ []
+nothing_left [] none = refl
+nothing_left (n ∷ left) none = absurd (none n (contains_head n left))
+
+none_left : (segments : Segments) (sweeper : Sweeper) → AreLeft segments sweeper → HasNone sought.Sweeping segments → sweeper.left ≡ []
+none_left segments sweeper h none =
+    nothing_left sweeper.left (λ n there. let waits = h.numbers.sound n there in none n (waits_in segments n waits) waits)
 
 -- the collector after the end of the cycle, and its state
 abbrev pub ended : Collector → ℕ → ℕ → CycleRow → Collector
@@ -52,6 +67,9 @@ module _ (script : Script) (c : Collector) (s : State) (h : StandsAt script c s)
   swept_by : Sweeps (sweeping k closed) s c
   swept_by = subst (λ (q : Progress). Sweeps q s c) is h.sweeper
 
+  left : AreLeft c.heap.segments w.sweeper
+  left = rw at at swept_by.0
+
   work : IsAtWork k closed (seen c).words s.allocation c.heap.segments (cycle_in (doing.Sweeping w) (died c.heap.weaks.deaths)) w.sweeper
   work = rw at at swept_by.1
 
@@ -93,10 +111,15 @@ module _ (script : Script) (c : Collector) (s : State) (h : StandsAt script c s)
     named = h.named;
   }
 
+  -- if no segment waits, none is left
+  pub left_none : IsSwept s → w.sweeper.left ≡ []
+  left_none swept = none_left c.heap.segments w.sweeper left (none_back c.heap.segments (seen c).words s.allocation h.heap.holds.stands swept)
+
   -- the cycle ended
-  pub ends_now : EndShowsCensus → (new : Collector) → HasNone sought.Sweeping c.heap.segments → new ≡ ended c w.sweeper.turns w.sweeper.upper_turns row →
+  pub ends_now : EndShowsCensus → (new : Collector) → w.sweeper.left ≡ [] → new ≡ ended c w.sweeper.turns w.sweeper.upper_turns row →
       (t : State) × (rows : List CycleRow) × EndsOrWaits s.progress s t rows × (report_cycles new ≡ report_cycles c ++ rows) × StandsAt script new t
-  ends_now law new waits new_is =
+  ends_now law new none new_is =
+      let waits = none_waits c.heap.segments w.sweeper left none in
       let swept : IsSwept s = none_to_sweep c.heap.segments (seen c).words s.allocation h.heap.holds.stands waits in (
         idled s,
         report_row row ∷ [],
@@ -132,11 +155,7 @@ module _ (law : EndShowsCensus) (script : Script) (old new : Collector) (s : Sta
   by_case (doing.Sweeping w) (marking k) at is e step = absurd (let bad : phase.Sweeping ≡ phase.Marking = e in cc)
   by_case (doing.Sweeping w) (sweeping k closed) at is e step = elim step [
     | inl x ↦ ends_now script old s h w at k closed is law new x.0 x.1
-    | inr x ↦ stays (sweeping k closed) is (inr (
-      (λ swept. x.0 (none_back old.heap.segments (seen old).words s.allocation h.heap.holds.stands swept)),
-      refl,
-      refl,
-    )) x.1
+    | inr x ↦ stays (sweeping k closed) is (inr ((λ swept. x.0 (left_none script old s h w at k closed is swept)), refl, refl)) x.1
   ]
 
 -- the end at any stop

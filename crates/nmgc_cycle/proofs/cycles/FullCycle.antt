@@ -1,11 +1,10 @@
 -- A full cycle is the run's, and a stop goes on as the run does.
-use Rattle.nmgc_cycle.proofs.Vocabulary.{ℕ, ◌≡◌, List, [], ◌++◌, length, Bool, false, refl, sym, ap, subst, ◌∙◌, inl, inr, arith, append-nil, append_assoc, IsSome, Segments, HasNone, IsSegments, FIRST_PLACE, counts_stand, CycleRow, ClosesNow, has_left, Plan, State, Progress, idle, marking, sweeping, cycle_started, free_count, plan_of, Finishes, DoesFullCycle, EndsOrWaits, IsFullDue, Proceeds, is_short, with_all_retired, Script, Name, Collector, Marking, Doing, Sweeping, Begins, Ends, CanBegin, HasClosed, HasStarted, HasFinished, StandsAtStop, FinishingNowLeads, SweepingRestLeads, FinishLeads, FilingLeads, FullLeads, ProceedingLeads, words_in, report_cycles, FitsRun, StandsAt, StartingLeads, EndLeads, BeginReady, BeginningLeads, ◌≤◌}
+use Rattle.nmgc_cycle.proofs.Vocabulary.{ℕ, ◌≡◌, List, [], ◌++◌, length, Bool, false, refl, sym, ap, subst, ◌∙◌, inl, inr, arith, append-nil, append_assoc, IsSome, Segments, IsSegments, FIRST_PLACE, counts_stand, CycleRow, ClosesNow, has_left, Plan, State, Progress, idle, marking, sweeping, cycle_started, free_count, plan_of, Finishes, DoesFullCycle, EndsOrWaits, IsFullDue, Proceeds, is_short, with_all_retired, Script, Name, Collector, Marking, Doing, Sweeping, Begins, Ends, CanBegin, HasClosed, HasStarted, HasFinished, StandsAtStop, FinishingNowLeads, SweepingRestLeads, FinishLeads, FilingLeads, FullLeads, ProceedingLeads, words_in, report_cycles, FitsRun, StandsAt, StartingLeads, EndLeads, BeginReady, BeginningLeads, ◌≤◌}
 use Rattle.nmgc_alloc.specs.Reserve as reserve
-use Rattle.nmgc_alloc.specs.declared.search.Category.TheVariants as sought
 use Rattle.nmgc_segment.specs.declared.state.State.TheVariants as stands
 use Rattle.nmgc_cycle.specs.declared.progress.Progress.TheVariants as doing
 use Rattle.nmgc_cycle.specs.Full as full
-use Rattle.nmgc_cycle.proofs.{lengths.StopFew.none_waits, stops.Reporting.stands_reported, stops.WholeStop.KeepsOn, stops.WholeStop.ending_keeps, stops.WholeStop.beginning_keeps}
+use Rattle.nmgc_cycle.proofs.{stops.Reporting.stands_reported, stops.WholeStop.KeepsOn, stops.WholeStop.ending_keeps, stops.WholeStop.beginning_keeps}
 
 -- The effect of a finish on the run
 
@@ -79,13 +78,14 @@ left_of (doing.Marking m) = []
 left_of (doing.Sweeping w) = w.sweeper.left
 
 none_left : (a b : Segments) (names : List Name) (p after : Doing) → full.SweepsRest a b names p after → (w : Sweeping) → after ≡ doing.Sweeping w →
-    HasNone sought.Sweeping b
+    w.sweeper.left ≡ []
+unfolding left_of
 none_left a b names doing.Idle after h w is = absurd (let bad : doing.Idle ≡ doing.Sweeping w = sym h.0 ∙ is in cc)
 none_left a b names (doing.Marking n) after h w is = absurd (let bad : doing.Marking n ≡ doing.Sweeping w = sym h.0 ∙ is in cc)
-none_left a b names (doing.Sweeping v) after h w is = none_waits b h.0.sweeper h.2.swept.left (ap (λ (l : List ℕ). length l) h.2.none)
+none_left a b names (doing.Sweeping v) after h w is = ap left_of (sym is ∙ h.1) ∙ h.2.none
 
 ended_idle : (stop : ℕ) (p : Doing) (old new : Collector) → old.cycle.progress ≡ p → Ends stop p old new → ((m : Marking) → p ≡ doing.Marking m → ⊥) →
-    ((w : Sweeping) → p ≡ doing.Sweeping w → HasNone sought.Sweeping old.heap.segments) → new.cycle.progress ≡ doing.Idle
+    ((w : Sweeping) → p ≡ doing.Sweeping w → w.sweeper.left ≡ []) → new.cycle.progress ≡ doing.Idle
 ended_idle stop doing.Idle old new is h never none = ap (λ (x : Collector). x.cycle.progress) h ∙ is
 ended_idle stop (doing.Marking m) old new is h never none = absurd (never m refl)
 ended_idle stop (doing.Sweeping w) old new is (inl h) never none = ap (λ (x : Collector). x.cycle.progress) h.1

@@ -1,5 +1,5 @@
 -- The requirements of a cycle's closing and beginning are met at a stop.
-use Rattle.nmgc_cycle.proofs.Vocabulary.{ℕ, ◌≡◌, ◌+◌, ◌≤◌, List, [], length, map, refl, sym, ap, subst, ◌∙◌, arith, true, Some, slice_get, length-map, FinishMayResolve, IsStopOf, finished_on, stop_opening, CoreHasSnapshot, Core, unmarked, World, map_item, item_map, MutatorEnd, Mutator, weak_count, HasRoomToMark, end_of, CollectorSeen, ends_of, DeathsHaveRoom, OldWeak, Marking, seen_mutator, seen, words_in, phase_in, marker_in, AllocState, NoneIs, IsIn, cycle_begun, StandsFor, Segments, HasNone, prepared_stands, AreShown, HeapRests, StopIsPrepared, all_prepared, RestsBeside, opening_beside, IsBeginning, IsPrepared, IsReady, FinQueue, Opening, AreAtRest, HoldsInCycle, IsEmptied, IsMarking, IsPacedAtStop, IsInCourse, AreSettled, epoch_of, State, Progress, idle, marking, sweeping, phase_of, plan_of, layout_of, Cycle, Script, Collector, Doing, CanClose, IsReadyToClose, CanBegin, next_epoch, queues_in, CanCloseNow, CloseNowReady, StandsForState, StandsAt, IsPacedWithin, CloseReady, BeginReady}
+use Rattle.nmgc_cycle.proofs.Vocabulary.{ℕ, ◌≡◌, ◌+◌, ◌≤◌, List, [], length, map, refl, sym, ap, subst, ◌∙◌, arith, true, Some, slice_get, length-map, FinishMayResolve, IsStopOf, finished_on, stop_opening, CoreHasSnapshot, Core, newest_first, unmarked, World, map_item, item_map, MutatorEnd, Mutator, weak_count, HasRoomToMark, end_of, CollectorSeen, ends_of, DeathsHaveRoom, OldWeak, Marking, seen_mutator, seen, words_in, phase_in, marker_in, AllocState, NoneIs, IsIn, cycle_begun, StandsFor, Segments, HasNone, prepared_stands, AreShown, HeapRests, StopIsPrepared, all_prepared, RestsBeside, opening_beside, IsBeginning, IsPrepared, IsReady, FinQueue, Opening, AreAtRest, HoldsInCycle, IsEmptied, IsMarking, IsPacedAtStop, IsInCourse, AreSettled, epoch_of, State, Progress, idle, marking, sweeping, phase_of, plan_of, layout_of, Cycle, Script, Collector, Doing, CanClose, IsReadyToClose, CanBegin, next_epoch, queues_in, CanCloseNow, CloseNowReady, StandsForState, StandsAt, IsPacedWithin, CloseReady, BeginReady}
 use Rattle.nmgc_collector_laws.specs.Worked.{registers_of}
 use Rattle.nmgc_alloc.specs.declared.search.Category.TheVariants as sought
 use Rattle.nmgc_journal.specs.declared.report.Phase.TheVariants as phase
@@ -149,7 +149,7 @@ module _ (prepares : StopIsPrepared) (begins : PreparedBegins) (script : Script)
 
   -- the opening with the heap of the stop, and its world as the snapshot
   abbrev pub snapshot_opening : Opening
-  snapshot_opening = record { layout = layout_of (plan_of script); marking = true; core = unmarked s.world; places = h.heap.places; hands = [] }
+  snapshot_opening = record { layout = layout_of (plan_of script); marking = true; core = unmarked newest_first s.world; places = h.heap.places; hands = [] }
 
   queues : run.queues_of (ends_of (seen c)) ≡ map (λ (q : FinQueue). q.words) (queues_in c.mutators.items)
   queues = queues_seen c ∙ sym (words_of_queues c.mutators.items)

@@ -1,8 +1,7 @@
 -- The steps of a stop leave no more rounds to follow.
 use Rattle.std.proofs.{Common.ℕ, Common.suc, Common.◌≡◌, Common.◌+◌, Common.◌<◌, Common.◌≤◌, Common.List, Common.[], Common.◌∷◌, Common.◌++◌, Common.length, Common.refl, Common.sym, Common.ap, Common.subst, Common.◌∙◌, Common.arith, Common.Bool, Common.true, Common.false, Common.inl, Common.inr, Common.length-append, lemmas.Bool.cases_lt, lemmas.List.get_or_past}
 use Rattle.std.specs.Prelude.{if◌then◌else◌, Contains, Option}
-use Rattle.nmgc_alloc.specs.{AllocState.AllocState, AllocState.StandsFor, AllocState.Segments, Segments.HasNone, Segments.IsWaiting}
-use Rattle.nmgc_alloc.specs.declared.search.Category.TheVariants as sought
+use Rattle.nmgc_alloc.specs.{AllocState.AllocState, AllocState.StandsFor, AllocState.Segments, Segments.IsWaiting}
 use Rattle.nmgc_segment.specs.Segment.{Segment, free_segment}
 use Rattle.nmgc_segment.specs.declared.state.State.TheVariants as stands
 use Rattle.nmgc_stop_spec.specs.Cycle.{IsPromoted, PlacesEach}
@@ -102,7 +101,7 @@ few_numbers bound [] up each = omega arith
 few_numbers bound (n ∷ ns) up each = let all = ascending 0 bound n ns up (omega arith) each in omega (arith, all)
 
 -- a waiting segment is a segment of the heap
-waits_in : (segments : Segments) (number : ℕ) → IsWaiting segments number → number < length segments.segments
+pub waits_in : (segments : Segments) (number : ℕ) → IsWaiting segments number → number < length segments.segments
 waits_in segments number waits = elim (cases_lt number (length segments.segments)) [
   | inl lt ↦ lt
   | inr past ↦ absurd (let e : stands.Free ≡ stands.Sweeping = sym (ap (λ (x : Segment). x.state) (get_or_past segments.segments number (free_segment 0) past)) ∙ waits in
@@ -112,13 +111,6 @@ waits_in segments number waits = elim (cases_lt number (length segments.segments
 -- no more segments are left than there are
 pub left_few : (segments : Segments) (sweeper : Sweeper) → AreLeft segments sweeper → length sweeper.left ≤ length segments.segments
 left_few segments sweeper h = few_numbers (length segments.segments) sweeper.left h.numbers.ordered (λ k there. waits_in segments k (h.numbers.sound k there))
-
--- if none is left none waits
-pub none_waits : (segments : Segments) (sweeper : Sweeper) → AreLeft segments sweeper → length sweeper.left ≡ 0 → HasNone sought.Sweeping segments
-none_waits segments sweeper h none i lt waits =
-    let there = h.numbers.complete i waits in
-    let in_it = there.1 in
-    omega (arith, in_it, none)
 
 module _ (script : Script) (old new : Collector) (stops stop : ℕ) (words : List ℕ) (a : AllocState) (st : StandsFor old.heap.segments words a)
     (count : length old.heap.segments.segments ≡ script.config.segments) (waiting : (m : Marking) → old.cycle.progress ≡ doing.Marking m →
@@ -206,21 +198,24 @@ module _ (script : Script) (old new : Collector) (stops stop : ℕ) (ends : Ends
   pub ending_few : AreFew (Unit {0}) script old stops → AreFew (Unit {0}) script new stops
   ending_few few = ended old.cycle.progress ends few
 
+  none_in : (l : List ℕ) → length l ≡ 0 → l ≡ []
+  none_in [] none = refl
+  none_in (x ∷ xs) none = absurd (omega (arith, none))
+
   more : (p : Doing) → old.cycle.progress ≡ p → Ends stop p old new → ((m : Marking) → p ≡ doing.Marking m → m.last.empty ≡ false) →
-      ((w : Sweeping) → p ≡ doing.Sweeping w → AreLeft old.heap.segments w.sweeper) → HasMore new.cycle.progress
-  more doing.Idle is h goes left = subst HasMore (sym (ap (λ (c : Collector). c.cycle.progress) h ∙ is)) tt
-  more (doing.Marking m) is h goes left = subst HasMore (sym (ap (λ (c : Collector). c.cycle.progress) h ∙ is)) (goes m refl)
-  more (doing.Sweeping w) is (inl h) goes left = subst HasMore (sym (ap (λ (c : Collector). c.cycle.progress) h.1)) tt
-  more (doing.Sweeping w) is (inr h) goes left = subst HasMore (sym (ap (λ (c : Collector). c.cycle.progress) h.1 ∙ is))
+      HasMore new.cycle.progress
+  more doing.Idle is h goes = subst HasMore (sym (ap (λ (c : Collector). c.cycle.progress) h ∙ is)) tt
+  more (doing.Marking m) is h goes = subst HasMore (sym (ap (λ (c : Collector). c.cycle.progress) h ∙ is)) (goes m refl)
+  more (doing.Sweeping w) is (inl h) goes = subst HasMore (sym (ap (λ (c : Collector). c.cycle.progress) h.1)) tt
+  more (doing.Sweeping w) is (inr h) goes = subst HasMore (sym (ap (λ (c : Collector). c.cycle.progress) h.1 ∙ is))
       (elim (cases_lt 0 (length w.sweeper.left)) [
         | inl some ↦ omega (arith, some)
-        | inr none ↦ absurd (h.0 (none_waits old.heap.segments w.sweeper (left w refl) (omega (arith, none))))
+        | inr none ↦ absurd (h.0 (none_in w.sweeper.left (omega (arith, none))))
       ])
 
   -- a cycle that goes on has something left
-  pub ending_more : ((m : Marking) → old.cycle.progress ≡ doing.Marking m → m.last.empty ≡ false) →
-      ((w : Sweeping) → old.cycle.progress ≡ doing.Sweeping w → AreLeft old.heap.segments w.sweeper) → HasMore new.cycle.progress
-  ending_more goes left = more old.cycle.progress refl ends goes left
+  pub ending_more : ((m : Marking) → old.cycle.progress ≡ doing.Marking m → m.last.empty ≡ false) → HasMore new.cycle.progress
+  ending_more goes = more old.cycle.progress refl ends goes
 
 -- The beginning of a cycle
 

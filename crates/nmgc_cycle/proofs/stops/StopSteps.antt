@@ -1,5 +1,5 @@
 -- The steps of a stop, from its beginning on: after each the collector represents a state of the run at this stop.
-use Rattle.nmgc_cycle.proofs.Vocabulary.{ℕ, ◌≡◌, ◌↔◌, ◌+◌, ◌<◌, ◌≤◌, List, ◌++◌, length, sym, ap, subst, ◌∙◌, arith, inl, inr, Bool, IsTrue, append_assoc, World, CycleRow, RoundRows, StopRow, Script, AreLeft, ClosesOrWaits, Promotes, EndsOrWaits, Proceeds, has_left, State, Progress, idle, marking, sweeping, phase_of, plan_of, layout_of, answered_count, Collector, Marking, Sweeping, Doing, HasTaken, Closes, HasClosed, Ends, BeginsThen, AreFew, HasMore, HasFinished, ProceedsThen, StandsAtStop, CanStop, IsWellFormed, Sweeps, seen, words_in, phase_in, sweeper_in, report_cycles, FitsRun, StandsPromoted, StandsWithin, StandsAt, HasStopLaws, HasPromoted, HasListed, SomeIsLeft, slice_index}
+use Rattle.nmgc_cycle.proofs.Vocabulary.{ℕ, ◌≡◌, ◌↔◌, ◌+◌, ◌<◌, ◌≤◌, List, ◌++◌, length, sym, ap, subst, ◌∙◌, arith, inl, inr, Bool, IsTrue, append_assoc, World, CycleRow, RoundRows, StopRow, Script, AreLeft, ClosesOrWaits, Promotes, EndsOrWaits, Proceeds, has_left, State, Progress, idle, marking, sweeping, phase_of, plan_of, layout_of, answered_count, Collector, Marking, Doing, HasTaken, Closes, HasClosed, Ends, BeginsThen, AreFew, HasMore, HasFinished, ProceedsThen, StandsAtStop, CanStop, IsWellFormed, Sweeps, seen, words_in, phase_in, sweeper_in, report_cycles, FitsRun, StandsPromoted, StandsWithin, StandsAt, HasStopLaws, HasPromoted, HasListed, SomeIsLeft, slice_index}
 use Rattle.nmgc_journal.specs.declared.report.Phase.TheVariants as phase
 use Rattle.nmgc_cycle.specs.declared.progress.Progress.TheVariants as doing
 use Rattle.nmgc_cycle.proofs.stops.AfterPromotion as after
@@ -52,18 +52,12 @@ pub record IsLed (script : Script) (began : World) (s : State) (many : ℕ) (old
   pub begun : new.cycle.begun ≤ length old.rows.stops + 1
   pub more : HasMore new.cycle.progress
 
--- while a cycle is in progress, its sweeper has all waiting segments left
+-- while a cycle marks, its sweeper has all waiting segments left
 left_marking : (s : State) (c : Collector) (q : Progress) → phase_in c.cycle.progress ≡ phase_of q → Sweeps q s c → (m : Marking) →
     c.cycle.progress ≡ doing.Marking m → AreLeft c.heap.segments m.sweeper
 left_marking s c idle e h m is = absurd (let bad : phase.Marking ≡ phase.Idle = ap phase_in (sym is) ∙ e in cc)
 left_marking s c (marking k) e h m is = subst (λ (p : Doing). AreLeft c.heap.segments (sweeper_in p)) is h.0.left
 left_marking s c (sweeping k closed) e h m is = subst (λ (p : Doing). AreLeft c.heap.segments (sweeper_in p)) is h.0
-
-left_sweeping : (s : State) (c : Collector) (q : Progress) → phase_in c.cycle.progress ≡ phase_of q → Sweeps q s c → (w : Sweeping) →
-    c.cycle.progress ≡ doing.Sweeping w → AreLeft c.heap.segments w.sweeper
-left_sweeping s c idle e h w is = absurd (let bad : phase.Sweeping ≡ phase.Idle = ap phase_in (sym is) ∙ e in cc)
-left_sweeping s c (marking k) e h w is = subst (λ (p : Doing). AreLeft c.heap.segments (sweeper_in p)) is h.0.left
-left_sweeping s c (sweeping k closed) e h w is = subst (λ (p : Doing). AreLeft c.heap.segments (sweeper_in p)) is h.0
 
 module _ (laws : HasStopLaws) (script : Script) (old p : Collector) (limits : FitsRun script) (can : CanStop script old) (h : HasPromoted old p)
     (listed : HasListed old p) where
@@ -131,7 +125,6 @@ module _ (laws : HasStopLaws) (script : Script) (old p : Collector) (limits : Fi
 
         more_ended : HasMore e.cycle.progress
         more_ended = ending_more script c e (length old.rows.stops + 1) number ends (closing_goes number a c closed)
-            (left_sweeping close_led.0 c close_led.0.progress close_led.2.matches.phase close_led.2.sweeper)
 
         -- no row was added yet
         pub ended_reported : reported e ≡ reported old

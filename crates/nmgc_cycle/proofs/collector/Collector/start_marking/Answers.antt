@@ -1,4 +1,4 @@
-use Rattle.nmgc_cycle.proofs.{Vocabulary.◌≡◌, Vocabulary.ℕ, Vocabulary.List, Vocabulary.false, Vocabulary.refl, Vocabulary.sym, Vocabulary.ap, Vocabulary.subst, Vocabulary.◌∙◌, Vocabulary.with_items, Vocabulary.Segments, Vocabulary.all_prepared, Vocabulary.IsBeginning, Vocabulary.most_blocks, Vocabulary.HasMarked, Vocabulary.blank, Vocabulary.IsTied, Vocabulary.MarkerSeen, Vocabulary.Marks, Vocabulary.marks_of, Vocabulary.Opening, Vocabulary.opening, Vocabulary.Sweeper, Vocabulary.HasBegun, Vocabulary.Mutator, Vocabulary.Collector, Vocabulary.StartsMarking, Vocabulary.next_epoch, Vocabulary.HaveQueueRoom, Vocabulary.queues_in, Vocabulary.words_in, lists.MutatorLists.vec_back}
+use Rattle.nmgc_cycle.proofs.{Vocabulary.◌≡◌, Vocabulary.ℕ, Vocabulary.List, Vocabulary.false, Vocabulary.refl, Vocabulary.sym, Vocabulary.ap, Vocabulary.subst, Vocabulary.◌∙◌, Vocabulary.with_items, Vocabulary.Segments, Vocabulary.all_prepared, Vocabulary.IsBeginning, Vocabulary.most_blocks, Vocabulary.HasMarked, Vocabulary.blank, Vocabulary.IsTied, Vocabulary.MarkerSeen, Vocabulary.Marks, Vocabulary.marks_of, Vocabulary.Opening, Vocabulary.newest_first, Vocabulary.opening_in, Vocabulary.Sweeper, Vocabulary.HasBegun, Vocabulary.Mutator, Vocabulary.Collector, Vocabulary.StartsMarking, Vocabulary.next_epoch, Vocabulary.HaveQueueRoom, Vocabulary.queues_in, Vocabulary.words_in, lists.MutatorLists.vec_back}
 use Rattle.nmgc_collector_laws.specs.Worked.{registers_of}
 use Rattle.nmgc_mark.specs.Marker as after
 use Rattle.nmgc_cycle.proofs.collector.Collector.start_marking.Goals as goal
@@ -29,7 +29,7 @@ turned_marker old new before marker turns h =
     }
 
 turned_tied : (o : Opening) (m : Marks) (s : Segments) (marker : MarkerSeen) (turns : ℕ) → IsTied o m s marker → IsTied o m s (after.turned marker turns)
-turned_tied o m s marker turns h = record { snapshot = h.snapshot; shared = h.shared; marks = h.marks; queue = h.queue; count = h.count }
+turned_tied o m s marker turns h = record { snapshot = h.snapshot; shared = h.shared; marks = h.marks; order = h.order; queue = h.queue; count = h.count }
 
 abbrev counted : Sweeper → Collector → Sweeper
 counted sweeper c = record sweeper { turns = c.cycle.turns; upper_turns = c.cycle.upper_turns }
@@ -87,7 +87,7 @@ returns c =
       turns = (refl, refl, refl);
       marked = turned_marker (all_prepared old.heap.segments) c.snapshot.new.segments (blank (next_epoch old) (most_blocks old.heap.segments.layout)) marker
           old.cycle.turns marked;
-      tied = λ o begins. turned_tied o (marks_of (opening o.core.snapshot)) c.snapshot.new.segments marker old.cycle.turns
+      tied = λ o begins. turned_tied o (marks_of (opening_in newest_first o.core.snapshot)) c.snapshot.new.segments marker old.cycle.turns
           (c.in_ok-marker.ensures.tied o (subst (λ (y : Segments × ℕ × List ℕ × List Mutator).
           IsBeginning o y.0 y.1 y.2 (registers_of y.3) (queues_in y.3)) (λ i. (sym prepared_is i, sym epoch_is i, sym held i, sym read i)) begins));
     })
