@@ -83,6 +83,7 @@ impl Mutator {
     }
 
     // Notes a finalised weak pointer, if it is in a segment.
+    #[inline(always)]
     pub(crate) fn note_finalised(&mut self, at: Address)
         requires one { IsWhole self.old }
         requires room { 0 < self.old.finalised.spare }

@@ -42,6 +42,7 @@ impl Mutator {
 
     // Does the command `Cas`: writes a field of a variable or an array if it has the expected value. While marking it owes
     // this value.
+    #[inline(always)]
     pub(crate) fn cas(
         &mut self,
         round: &Round,
@@ -84,6 +85,7 @@ impl Mutator {
     }
 
     // Does the command `Force`: reads the result of a thunk, if it has one, into a register.
+    #[inline(always)]
     pub(crate) fn force(
         &mut self,
         round: &Round,
@@ -116,6 +118,7 @@ impl Mutator {
 
     // Does the command `Deref`: reads the value of a weak pointer, if it is alive, into a register. While marking it owes the
     // value.
+    #[inline(always)]
     pub(crate) fn deref(
         &mut self,
         round: &Round,
@@ -150,6 +153,7 @@ impl Mutator {
 
     // Does the command `Finalise`: kills a weak pointer, if it is alive, and takes its finaliser into a register. While
     // marking it owes the weak pointer, its value and its finaliser. A weak pointer in a segment is noted for the stop.
+    #[inline(always)]
     pub(crate) fn finalise(
         &mut self,
         round: &Round,
@@ -186,6 +190,7 @@ impl Mutator {
     }
 
     // Loads the free variables of a thunk into `free`. They never change, and the seat names them from then on.
+    #[inline(always)]
     fn load_free(&self, round: &Round, seat: &mut MutatorSeat, at: Address, free: &mut [u64])
         requires ready { IsReady round.now seat.old self.now }
         requires thunk { (header : Header) × Names (part_of (seen seat.old)) at.0 header × (header.kind ≡ Thunk) ×
@@ -198,6 +203,7 @@ impl Mutator {
     }
 
     // Does the command `Update`: gives a thunk a result if it has none. While marking it owes the thunk's free variables.
+    #[inline(always)]
     pub(crate) fn update(
         &mut self,
         round: &Round,

@@ -70,6 +70,7 @@ impl Mutator {
     }
 
     // Does the command `Push`: puts a value on top of a stack of the mutator's own, unless it is full.
+    #[inline(always)]
     pub(crate) fn push_value(
         &mut self,
         round: &Round,
@@ -103,6 +104,7 @@ impl Mutator {
 
     // Does the command `Pop`: takes the value on top of a stack of the mutator's own, if there is one. While marking it owes
     // the value.
+    #[inline(always)]
     pub(crate) fn pop_value(
         &mut self,
         round: &Round,
@@ -135,6 +137,7 @@ impl Mutator {
     }
 
     // Does the command `NextFin`: takes the first finaliser that waits for this mutator, if any, into a register.
+    #[inline(always)]
     pub(crate) fn next_fin(
         &mut self,
         round: &Round,
