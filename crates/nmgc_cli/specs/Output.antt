@@ -63,7 +63,7 @@ cause_text cause.Size = codes "size"
 
 -- the text of a refusal
 abbrev pub refusal_text : Refusal → List ℕ
-refusal_text no.Usage = codes "usage: nmgc run | nmgc bench N | nmgc upgrade | nmgc image | nmgc retain NAME | nmgc marks N\n"
+refusal_text no.Usage = codes "usage: nmgc run | nmgc bench N | nmgc upgrade | nmgc image | nmgc retain NAME | nmgc marks N | nmgc live [-k|-t]\n"
 refusal_text no.ReadFault = codes "read fault\n"
 refusal_text no.TooLong = codes "too long\n"
 refusal_text (no.Bad line c) = codes "bad line " ++ decimal line ++ 32 ∷ cause_text c ++ 10 ∷ []

@@ -16,7 +16,7 @@ pub fn message(refusal: Refusal) -> &'static [u8]
 {
     match refusal {
         Refusal::Usage =>
-            b"usage: nmgc run | nmgc bench N | nmgc upgrade | nmgc image | nmgc retain NAME | nmgc marks N\n",
+            b"usage: nmgc run | nmgc bench N | nmgc upgrade | nmgc image | nmgc retain NAME | nmgc marks N | nmgc live [-k|-t]\n",
         Refusal::ReadFault => b"read fault\n",
         Refusal::TooLong => b"too long\n",
         Refusal::Bad { .. } | Refusal::BadImage { .. } => unreachable!(),

@@ -10,15 +10,15 @@ use Rattle.nmgc_journal.specs.{Printing.round_text, Printing.stop_text, Text.end
 use Rattle.nmgc_run_spec.specs.AfterRound.{program_of}
 use Rattle.nmgc_cycle.specs.{declared.command_queue.CommandQueue.CommandQueue, declared.session.Session.Session, Sessions.HasSameLines, Sessions.IsSession, Sessions.accepted_in, laws.EventTexts.report_is_events}
 use Rattle.nmgc_cycle.specs.declared.observer.Event.TheVariants as event
-use Rattle.nmgc_live.specs.{Live.HasGivenUp, Live.IsEnded, Live.IsSound, Played.Carries, Played.IsPlayed, Steps.AnswersEnd, Steps.DidRound, Steps.DidStop, Steps.IsAnswered, Steps.IsRounding, Steps.IsStopping, Steps.tail_of, Transcripts.Transcript, Transcripts.Did, Transcripts.Ready, Transcripts.events_of, Transcripts.round_of, Transcripts.text_of, declared.lines.LineReader.LineReader, declared.options.Options.Options, declared.writer.ReportText.ReportText}
+use Rattle.nmgc_live.specs.{Live.HasGivenUp, Live.IsEnded, Live.IsSound, Played.Carries, Played.IsPlayed, Steps.AnswersEnd, Steps.DidRound, Steps.DidStop, Steps.IsAnswered, Steps.IsRounding, Steps.IsStopping, Steps.tail_of, Transcripts.Transcript, Transcripts.Did, Transcripts.HasNoStopDue, Transcripts.Ready, Transcripts.events_of, Transcripts.round_of, Transcripts.text_of, declared.lines.LineReader.LineReader, declared.options.Options.Options, declared.writer.ReportText.ReportText, Lines.IsReader, Steps.HasAnsweredStop, Steps.HasComeToRound, Steps.HasComeToStop, Steps.IsHeapOf, Steps.IsLiveSession, declared.session.LiveSession.LiveSession}
 use Rattle.nmgc_live.specs.declared.refusal.Refusal.TheVariants as no
-use Rattle.nmgc_live.proofs.{Lining.appends_on, Lining.front_on, Lining.read_to, Played.shown, Runs.carries_same, Runs.has_run}
+use Rattle.nmgc_live.proofs.{Lining.appends_on, Lining.front_on, Lining.read_to, Played.shown, Runs.carries_same, Runs.has_run, Stepping.same_heap, Stepping.stopped_heap}
 
 module _ (o : Options) (before now taken w : Option (List ℕ)) (head : Script) (r : LineReader) (s v : Session) (is_open_now : Bool) (p q : ReportText)
     (h : IsStopping o before now taken w head r s is_open_now p) where
   -- a session that is given up before its stop
   pub stop_given_up : HasGivenUp o before now taken w no.NoMemory
-  stop_given_up = (head, (h.before, h.before_sound, h.written))
+  stop_given_up = (head, (h.before, h.before_sound, (h.written, h.before_whole)))
 
   module _ (end : Option End) (d : DidStop is_open_now s v p q end) (is : IsSession false v) (rest : v ≡ record s { collector = v.collector }) where
     abbrev stopped : Transcript
@@ -102,7 +102,7 @@ module _ (o : Options) (before now taken w : Option (List ℕ)) (head : Script) 
             goes_on = refl;
             is_open_is = h.is_open_is ∙ g;
             carries = carries_ready;
-            read = record { read = h.read.read; number = h.read.number; closed = h.read.closed };
+            read = record { read = h.read.read; number = h.read.number; closed = h.read.closed; cuts = h.read.cuts };
             written = text true g;
           },
           sym d.round,
@@ -114,7 +114,7 @@ module _ (o : Options) (before now taken w : Option (List ℕ)) (head : Script) 
             goes_on = (refl, h.is_open_is ∙ g);
             is_open_is = h.is_open_is ∙ g;
             carries = carries;
-            read = record { read = h.read.read; number = h.read.number; closed = h.read.closed };
+            read = record { read = h.read.read; number = h.read.number; closed = h.read.closed; cuts = h.read.cuts };
             written = subst (Appends taken x) (append-nil (text_of stopped)) (text false g);
           },
           sym d.round,
@@ -123,6 +123,7 @@ module _ (o : Options) (before now taken w : Option (List ℕ)) (head : Script) 
     -- the run ended
     pub ended : (x : Option (List ℕ)) (e : End) → end ≡ Some e → Appends w x q.text.items → IsEnded taken x head stopped e
     ended x e same said = record {
+      phase = refl;
       run = has_run false head stopped v carries;
       ended = answers.0;
       lawful = answers.1;
@@ -138,14 +139,49 @@ module _ (o : Options) (before now taken w : Option (List ℕ)) (head : Script) 
     pub sound_end : IsSound o before now head stopped
     sound_end = sound_stopped
 
+-- a session whose stop was written
+pub at_lines : (w x : Option (List ℕ)) (old : LiveSession) (v : Session) (q z : ReportText) (end : Option End) → IsLiveSession true old →
+    DidStop old.is_open old.session v old.report q end → IsSession false v → v ≡ record old.session { collector = v.collector } →
+    Appends w x q.text.items → z.text.items ≡ [] → z.round ≡ q.round → HasAnsweredStop w x old (record old { session = v; report = z }) end
+at_lines w x old v q z end parts d is rest said none round = record {
+  goes_on = λ e o lb ln tb h. (
+      let k = answered o lb ln tb w h.1.0 old.lines old.session v old.is_open old.report q h.1.1 end d is rest x e said in (
+        record { parts = kept; goes_on = subst (AnswersEnd v) e d.answers; written = none },
+        (h.1.0, (k.0, k.1, k.2 ∙ sym round)),
+      ));
+  ends = λ e same o lb ln tb h. (
+    h.1.0,
+    (
+      Did h.1.1.t (event.Stop d.row d.cycles),
+      sound_end o lb ln tb w h.1.0 old.lines old.session v old.is_open old.report q h.1.1 end d is rest,
+      (e, refl, ended o lb ln tb w h.1.0 old.lines old.session v old.is_open old.report q h.1.1 end d is rest x e same said),
+    ),
+  );
+}
+  where
+    kept : IsLiveSession false (record old { session = v; report = z })
+    kept = record {
+      reader = parts.reader;
+      session = is;
+      is_open_is = ap (λ (y : Session). y.is_open) rest ∙ parts.is_open_is;
+      heap = stopped_heap old.heap old.session v rest parts.heap;
+    }
+
 -- a round, behind which a stop comes
 module _ (o : Options) (before now taken w : Option (List ℕ)) (head : Script) (t : Transcript) (r : LineReader) (s v : Session) (is_open_now : Bool)
     (p q : ReportText) (h : IsRounding o before now taken w head t r s is_open_now) where
   sound_now : IsSound o before now head t
   sound_now = (h.played, read_to before now r t h.read, inr (has_run false head t s h.carries))
 
+  -- each stop was written
+  whole_now : HasNoStopDue t
+  whole_now due = elim h.due [
+    | inl e ↦ (let f = sym e ∙ due in cc)
+    | inr e ↦ (let f = sym e.0 ∙ due in cc)
+  ]
+
   pub round_given_up : HasGivenUp o before now taken w no.NoMemory
-  round_given_up = (head, (t, sound_now, h.written))
+  round_given_up = (head, (t, sound_now, (h.written, whole_now)))
 
   pub rounded : (d : DidRound s v p q) → IsSession true v → HasSameLines s v → round_of t ≡ p.round → p.text.items ≡ [] →
       IsStopping o before now taken w head r v is_open_now q
@@ -164,10 +200,22 @@ module _ (o : Options) (before now taken w : Option (List ℕ)) (head : Script) 
       accepted = λ k lt. ap (λ (l : List (List Command)). program_of l k) same.accepted ∙ h.carries.accepted k lt;
       events = d.events (events_of t) h.carries.events;
     };
-    read = record { read = h.read.read; number = h.read.number; closed = h.read.closed };
+    read = record { read = h.read.read; number = h.read.number; closed = h.read.closed; cuts = h.read.cuts };
     before = t;
     before_sound = sound_now;
+    before_whole = whole_now;
     written = h.written;
     pending = ap (λ (n : ℕ). text_of t ++ round_text n d.rows) round
         ∙ ap (λ (l : List ℕ). text_of t ++ l) (sym (d.text ∙ ap (λ (l : List ℕ). l ++ round_text p.round d.rows) none));
   }
+
+-- a session that came to its next stop
+pub at_stop : (o : Options) (a b w v : Option (List ℕ)) (old : LiveSession) (r : LineReader) (s u : Session) (is_open_now : Bool) (q : ReportText) →
+    HasComeToRound o a b w v old.lines r old.session s old.is_open is_open_now → DidRound s u old.report q → IsSession true u → HasSameLines s u → IsReader r →
+    s.is_open ≡ is_open_now → IsHeapOf old.heap s →
+    HasComeToStop o a b w v old (record old { lines = r; session = u; is_open = is_open_now; report = q })
+at_stop o a b w v old r s u is_open_now q come did is same reader open_is heap lb tb h =
+    let k = come h.1.0 h.1.1.0 lb tb h.1.1.1 in (
+      record { reader = reader; session = is; is_open_is = same.is_open ∙ open_is; heap = same_heap old.heap s u same heap },
+      (h.1.0, rounded o lb b tb v h.1.0 k.0 r s u is_open_now old.report q k.1 did is same (k.2 ∙ h.1.1.2) h.0.written),
+    )

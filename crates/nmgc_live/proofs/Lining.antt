@@ -1,5 +1,5 @@
 -- The lines of a session: how a transcript goes on with each, and the bytes that were read.
-use Rattle.std.proofs.Common.{ℕ, ◌≡◌, ◌+◌, ◌<◌, ◌⊎◌, ◌++◌, List, [], ◌∷◌, length, take, refl, sym, ap, subst, ◌∙◌, arith, append_assoc, append-nil, inr, Option, None, Some}
+use Rattle.std.proofs.Common.{ℕ, ◌≡◌, ◌+◌, ◌<◌, ◌⊎◌, ◌++◌, List, [], ◌∷◌, length, take, refl, sym, ap, subst, ◌∙◌, arith, append_assoc, append-nil, inl, inr, Option, None, Some}
 use Rattle.std.specs.Prelude.{true, false, codes, ◌==◌, if◌then◌else◌}
 use Rattle.std.proofs.lemmas.List.{drop_at, length-append, length-map, take_at}
 use Rattle.std.proofs.Math.Seq.{take-add}
@@ -9,7 +9,7 @@ use Rattle.nmgc_io.specs.Text.{AppendsFront, is_blank_or_comment}
 use Rattle.nmgc_script.specs.declared.script.Script.{Script}
 use Rattle.nmgc_run_spec.specs.AfterRound.{program_of}
 use Rattle.nmgc_cycle.specs.{declared.command_queue.CommandQueue.CommandQueue, declared.collector.Collector.Collector, declared.session.Session.Session, Observed.AreEventsOf, Sessions.HasPushedTo, Sessions.IsSession, Sessions.accepted_in}
-use Rattle.nmgc_live.specs.{Lines.ReadsCut, Lines.ReadsLine, Lines.ReadsNoLine, Lines.fed, Lines.next_number, Lines.unread, Live.HasRead, Live.IsRefused, Live.IsSound, Meanings.IsFullIn, Meanings.IsGiven, Played.IsBadLine, Played.IsFullFor, Refusals.bad_line, Steps.IsReadTo, Steps.IsReadUp, Steps.IsReading, Transcripts.Transcript, Transcripts.Bad, Transcripts.Close, Transcripts.CutOff, Transcripts.Given, Transcripts.Quiet, Transcripts.Round, Transcripts.bytes_of, Transcripts.events_of, Transcripts.given_to, Transcripts.is_open, Transcripts.number_of, Transcripts.text_of, declared.lines.LineReader.LineReader, declared.options.Options.Options, declared.refusal.Fault.Fault}
+use Rattle.nmgc_live.specs.{Lines.ReadsCut, Lines.ReadsLine, Lines.ReadsNoLine, Lines.fed, Lines.next_number, Lines.unread, Live.HasRead, Live.IsRefused, Live.IsSound, Meanings.IsFullIn, Meanings.IsGiven, Played.IsBadLine, Played.IsFullFor, Refusals.bad_line, Steps.IsReadTo, Steps.IsReading, Steps.IsRounding, Transcripts.Transcript, Transcripts.Bad, Transcripts.Close, Transcripts.CutOff, Transcripts.Given, Transcripts.Quiet, Transcripts.Round, Transcripts.bytes_of, Transcripts.events_of, Transcripts.given_to, Transcripts.is_open, Transcripts.number_of, Transcripts.text_of, declared.lines.LineReader.LineReader, declared.options.Options.Options, declared.refusal.Fault.Fault}
 use Rattle.nmgc_live.specs.declared.refusal.Fault.TheVariants as fault
 use Rattle.nmgc_live.specs.declared.refusal.Refusal.TheVariants as no
 use Rattle.nmgc_live.proofs.{LineParts.consumes_on, Played.not_ended, Played.takes_open, Runs.carries_same, Runs.has_run, Runs.pushed_to}
@@ -63,7 +63,7 @@ with_none before b s bytes part h e =
 
 -- a reader's transcript was read
 pub read_to : (before now : Option (List ℕ)) (r : LineReader) (t : Transcript) → IsReadTo before now r t → HasRead before now t
-read_to before now r t h = (unread r, h.read, h.closed)
+read_to before now r t h = (unread r, h.read, h.closed, h.cuts)
 
 module _ (o : Options) (before a b taken w : Option (List ℕ)) (head : Script) (t : Transcript) (r : LineReader) (s : Session)
     (h : IsReading o before a taken w head t r s) where
@@ -74,7 +74,7 @@ module _ (o : Options) (before a b taken w : Option (List ℕ)) (head : Script) 
   pub sound : (xs : List ℕ) → Consumes a b xs → IsSound o before b head t
   sound xs q = (
     h.played,
-    (unread r ++ xs, read_more before a b r r (bytes_of t) h.read.read xs q, not_ended t b open_is),
+    (unread r ++ xs, read_more before a b r r (bytes_of t) h.read.read xs q, not_ended t b open_is, h.read.cuts),
     inr (has_run false head t s h.carries),
   )
 
@@ -94,13 +94,14 @@ module _ (o : Options) (before a b taken w : Option (List ℕ)) (head : Script) 
     pub goes_quiet : (line : List ℕ) → ReadsLine r x a b line → (is_blank_or_comment line ≡ true) ⊎ ((line ≡ codes "help") × (o.has_prompts ≡ true)) →
         IsReading o before b taken w head (Quiet t line) x s
     goes_quiet line q m = record {
-      played = (h.played, h.reading, m);
+      played = (h.played, h.reading, q.3, m);
       reading = refl;
       carries = carries_same false head t (Quiet t line) s refl (λ k. refl) refl h.carries;
       read = record {
         read = read_line before a b r x (bytes_of t) h.read.read line q;
         number = number;
         closed = not_ended t b open_is;
+        cuts = h.read.cuts;
       };
       written = h.written;
     }
@@ -110,7 +111,7 @@ module _ (o : Options) (before a b taken w : Option (List ℕ)) (head : Script) 
         IsGiven head.config.words (length head.threads) line m c → HasPushedTo m c s v → IsSession false v →
         IsReading o before b taken w head (Given t line m c) x v
     goes_on line m c v q g p is = record {
-      played = (h.played, h.reading, g);
+      played = (h.played, h.reading, q.3, g);
       reading = refl;
       carries = record {
         is = is;
@@ -124,6 +125,7 @@ module _ (o : Options) (before a b taken w : Option (List ℕ)) (head : Script) 
         read = read_line before a b r x (bytes_of t) h.read.read line q;
         number = number;
         closed = not_ended t b open_is;
+        cuts = h.read.cuts;
       };
       written = h.written;
     }
@@ -136,13 +138,14 @@ module _ (o : Options) (before a b taken w : Option (List ℕ)) (head : Script) 
     pub goes_past : (line : List ℕ) (f : Fault) (v : Option (List ℕ)) → ReadsLine r x a b line → IsBadLine o head t line f →
         o.passes_over ≡ true → Appends w v (bad_line x.number f) → IsReading o before b taken v head (Bad t line f) x s
     goes_past line f v q m passes said = record {
-      played = (h.played, passes, m);
+      played = (h.played, passes, q.3, m);
       reading = h.reading;
       carries = carries_same false head t (Bad t line f) s refl (λ k. refl) refl h.carries;
       read = record {
         read = read_line before a b r x (bytes_of t) h.read.read line q;
         number = number;
         closed = not_ended t b open_is;
+        cuts = h.read.cuts;
       };
       written = appends_on taken w v (text_of t) (bad_line (next_number (number_of t)) f) h.written (subst (λ (k : ℕ). Appends w v (bad_line k f)) number said);
     }
@@ -158,22 +161,24 @@ module _ (o : Options) (before a b taken w : Option (List ℕ)) (head : Script) 
         read = with_none before b x (bytes_of t) (unread r ++ q.0.0) (read_more before a b r x (bytes_of t) h.read.read q.0.0 q.0.1) q.2;
         number = number;
         closed = not_ended t b open_is;
+        cuts = (h.read.cuts, (b, read_more before a b r x (bytes_of t) h.read.read q.0.0 q.0.1, q.3));
       };
       written = appends_on taken w v (text_of t) (bad_line (next_number (number_of t)) fault.Line) h.written
           (subst (λ (k : ℕ). Appends w v (bad_line k fault.Line)) number said);
     }
 
     -- the line `round`
-    pub goes_round : ReadsLine r x a b (codes "round") → IsReadUp o before b taken w head (Round t) x s true
+    pub goes_round : ReadsLine r x a b (codes "round") → IsRounding o before b taken w head (Round t) x s true
     goes_round q = record {
       played = (h.played, h.reading);
-      due = refl;
+      due = inl refl;
       is_open_is = open_is;
       carries = carries_same false head t (Round t) s refl (λ k. refl) refl h.carries;
       read = record {
         read = read_line before a b r x (bytes_of t) h.read.read (codes "round") q;
         number = number;
         closed = not_ended t b open_is;
+        cuts = h.read.cuts;
       };
       written = h.written;
     }
@@ -181,10 +186,10 @@ module _ (o : Options) (before a b taken w : Option (List ℕ)) (head : Script) 
     -- the line `end`, or the end of the input
     pub goes_closed : (bytes : List ℕ) (v : Session) → Consumes before b ((bytes_of t ++ bytes) ++ unread x) → (bytes ≡ fed (codes "end")) ⊎ (bytes ≡ []) →
         (bytes ≡ [] → IsAtEnd b) → IsSession false v → v.is_open ≡ false → v ≡ record s { queues = v.queues; is_open = false } →
-        accepted_in v ≡ accepted_in s → IsReadUp o before b taken w head (Close t bytes) x v false
+        accepted_in v ≡ accepted_in s → IsRounding o before b taken w head (Close t bytes) x v false
     goes_closed bytes v q m end is closed rest accepted = record {
       played = (h.played, h.reading, m);
-      due = refl;
+      due = inl refl;
       is_open_is = refl;
       carries = record {
         is = is;
@@ -194,7 +199,7 @@ module _ (o : Options) (before a b taken w : Option (List ℕ)) (head : Script) 
         accepted = λ k lt. ap (λ (l : List (List Command)). program_of l k) accepted ∙ h.carries.accepted k lt;
         events = subst (λ (y : Collector). AreEventsOf y false (events_of t)) (ap (λ (y : Session). y.collector) (sym rest)) h.carries.events;
       };
-      read = record { read = q; number = number; closed = λ e. end (some_same e) };
+      read = record { read = q; number = number; closed = λ e. end (some_same e); cuts = h.read.cuts };
       written = h.written;
     }
       where

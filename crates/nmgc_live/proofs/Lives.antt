@@ -8,17 +8,17 @@ use Rattle.nmgc_journal.specs.declared.report.End.{End}
 use Rattle.nmgc_journal.specs.declared.report.End.TheVariants as end
 use Rattle.nmgc_cli.specs.{Output.status_of, declared.status.Status.Status}
 use Rattle.nmgc_cli.specs.declared.status.Status.TheVariants as status
-use Rattle.nmgc_live.specs.{Lines.unread, Live.EndsAs, Live.HasEndedRun, Live.HasGivenUp, Live.IsCutText, Live.IsEnded, Live.IsLive, Live.IsRefused, Refusals.WritesLast, Refusals.WritesRefusal, Refusals.bad_line, Refusals.refusal_status, Refusals.refusal_text, Steps.HasReadHead, Steps.IsHeading, Transcripts.Transcript, Transcripts.Start, Transcripts.text_of, declared.lines.LineReader.LineReader, declared.options.Options.Options, declared.refusal.Fault.Fault, declared.refusal.Refusal.Refusal}
+use Rattle.nmgc_live.specs.{Lines.unread, Live.EndsAs, Live.HasEndedRun, Live.HasGivenUp, Live.IsCutText, Live.IsEnded, Live.IsLive, Live.IsRefused, Refusals.WritesLast, Refusals.WritesRefusal, Refusals.bad_line, Refusals.refusal_status, Refusals.refusal_text, Steps.HasReadHead, Steps.IsHeading, Transcripts.Transcript, Transcripts.HasNoStopDue, Transcripts.Start, Transcripts.text_of, declared.lines.LineReader.LineReader, declared.options.Options.Options, declared.refusal.Fault.Fault, declared.refusal.Refusal.Refusal}
 use Rattle.nmgc_live.specs.declared.refusal.Refusal.TheVariants as no
-use Rattle.nmgc_live.proofs.{Answering.appends_none, LineParts.consumes_none, Lining.appends_on, Lining.front_on, Played.not_ended, Taking.no_head}
+use Rattle.nmgc_live.proofs.{Answering.appends_none, LineParts.consumes_none, Lining.appends_on, Lining.front_on, Played.not_ended, Played.takes_whole, Taking.no_head}
 
 -- a session that is given up before it read anything, and behind its head
 pub given_up_first : (o : Options) (left taken : Option (List ℕ)) → HasGivenUp o left left taken taken no.NoMemory
-given_up_first o left taken = (no_head, (Start, (tt, ([], consumes_none left, not_ended Start left refl), inl refl), appends_none taken))
+given_up_first o left taken = (no_head, (Start, (tt, ([], consumes_none left, not_ended Start left refl, tt), inl refl), (appends_none taken, takes_whole Start (inl refl))))
 
 pub given_up_headed : (o : Options) (before now taken w : Option (List ℕ)) (r : LineReader) (head : Script) → HasReadHead o before now taken w r head →
     HasGivenUp o before now taken w no.NoMemory
-given_up_headed o before now taken w r head h = (head, (h.before, h.before_sound, h.written))
+given_up_headed o before now taken w r head h = (head, (h.before, h.before_sound, (h.written, h.before_whole)))
 
 -- a session whose head goes on too long
 pub given_up_heading : (o : Options) (before now taken w : Option (List ℕ)) (text : List ℕ) (r : LineReader) (t : Transcript) →
@@ -27,8 +27,8 @@ given_up_heading o before now taken w text r t h = (
   no_head,
   (
     t,
-    (h.played no_head, (unread r, h.read.read, h.read.closed), inl h.in_head),
-    h.written,
+    (h.played no_head, (unread r, h.read.read, h.read.closed, h.read.cuts), inl h.in_head),
+    (h.written, takes_whole t (inl h.in_head)),
   ),
 )
 
@@ -47,10 +47,11 @@ module _ (o : Options) (lb ln tb tn : Option (List ℕ)) where
     cut_last : (refusal : Refusal) → Appends tb tn (text_of t) → AppendsFront tn tx (refusal_text refusal) → IsCutText tb tx t
     cut_last refusal said front = (refusal_text refusal, inr (inr (refusal, refl)), front_on tb tn tx (text_of t) (refusal_text refusal) said front)
 
-    no_memory : (result : Status) → Appends tb tn (text_of t) → WritesLast tn tx (codes "no memory\n") status.NoMemory result →
+    no_memory : (result : Status) → Appends tb tn (text_of t) → HasNoStopDue t → WritesLast tn tx (codes "no memory\n") status.NoMemory result →
         EndsAs o lb ln tb tx head t result
-    no_memory result said (inl q) = subst (EndsAs o lb ln tb tx head t) (sym q.0) (appends_on tb tn tx (text_of t) (codes "no memory\n") said q.1)
-    no_memory result said (inr q) = subst (EndsAs o lb ln tb tx head t) (sym q.0) (cut_last no.NoMemory said q.1)
+    no_memory result said whole (inl q) = subst (EndsAs o lb ln tb tx head t) (sym q.0)
+        (appends_on tb tn tx (text_of t) (codes "no memory\n") said q.1, whole)
+    no_memory result said whole (inr q) = subst (EndsAs o lb ln tb tx head t) (sym q.0) (cut_last no.NoMemory said q.1)
 
     still_cut : (result : Status) → IsCutText tb tn t → WritesLast tn tx [] status.WriteFault result → EndsAs o lb ln tb tx head t result
     still_cut result cut (inl q) = subst (EndsAs o lb ln tb tx head t) (sym q.0) (
@@ -73,7 +74,7 @@ module _ (o : Options) (lb ln tb tn : Option (List ℕ)) where
         (h.1, h.2, appends_on tb tn tx (text_of t) (codes "read fault\n") h.0 q.1)
     ends_by no.ReadFault result h (inr q) = subst (EndsAs o lb ln tb tx head t) (sym q.0) (cut_last no.ReadFault h.0 q.1)
     ends_by no.WriteFault result h q = still_cut result h q
-    ends_by no.NoMemory result h q = no_memory result h q
+    ends_by no.NoMemory result h q = no_memory result h.0 h.1 q
 
   pub live_refused : (tx : Option (List ℕ)) (refusal : Refusal) (result : Status) → HasGivenUp o lb ln tb tn refusal → WritesRefusal tn tx refusal result →
       IsLive o lb ln tb tx result
@@ -84,7 +85,7 @@ module _ (o : Options) (lb ln tb tn : Option (List ℕ)) where
           (subst (λ (r : Refusal). WritesLast tn tx (refusal_text r) (refusal_status r) result) same q.2)
       by_said (inr none) =
           let bad = subst (IsRefused o lb ln tb tn h.0 h.1.0) none.1.1.1 h.1.2 in
-          no_memory tx h.0 h.1.0 result bad.0 (subst (λ (r : Refusal). WritesLast tn tx (refusal_text r) (refusal_status r) result) none.0 q.2)
+          no_memory tx h.0 h.1.0 result bad.0 (takes_whole h.1.0 bad.2.0) (subst (λ (r : Refusal). WritesLast tn tx (refusal_text r) (refusal_status r) result) none.0 q.2)
 
 -- a count that rose before or later
 pub rose_more : (a b c : ℕ) → Rose a b → b ≤ c → Rose a c

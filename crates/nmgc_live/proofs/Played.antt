@@ -5,7 +5,7 @@ use Rattle.std.specs.Io.KnownBytes.{IsAtEnd}
 use Rattle.nmgc_script.specs.declared.script.Script.{Script}
 use Rattle.nmgc_cycle.specs.{EventTexts.event_text, EventTexts.events_text, EventTexts.next_round, declared.observer.Event.Event}
 use Rattle.nmgc_cycle.specs.declared.observer.Event.TheVariants as event
-use Rattle.nmgc_live.specs.{Lines.fed, Meanings.IsBad, Played.IsPlayed, Transcripts.Transcript, Transcripts.Bad, Transcripts.Begin, Transcripts.Close, Transcripts.CutOff, Transcripts.Did, Transcripts.Given, Transcripts.Head, Transcripts.InHead, Transcripts.Phase, Transcripts.Quiet, Transcripts.Reading, Transcripts.Ready, Transcripts.Round, Transcripts.RoundDue, Transcripts.Start, Transcripts.StopDue, Transcripts.Stopped, Transcripts.TakesLine, Transcripts.closed_by, Transcripts.events_of, Transcripts.is_open, Transcripts.phase_of, Transcripts.report_in, Transcripts.round_of, declared.options.Options.Options, declared.refusal.Fault.Fault}
+use Rattle.nmgc_live.specs.{Lines.fed, Meanings.IsBad, Played.IsPlayed, Transcripts.Transcript, Transcripts.Bad, Transcripts.Begin, Transcripts.Close, Transcripts.CutOff, Transcripts.Did, Transcripts.Given, Transcripts.HasNoStopDue, Transcripts.Head, Transcripts.InHead, Transcripts.Phase, Transcripts.Quiet, Transcripts.Reading, Transcripts.Ready, Transcripts.Round, Transcripts.RoundDue, Transcripts.Start, Transcripts.StopDue, Transcripts.Stopped, Transcripts.TakesLine, Transcripts.closed_by, Transcripts.events_of, Transcripts.is_open, Transcripts.phase_of, Transcripts.report_in, Transcripts.round_of, declared.options.Options.Options, declared.refusal.Fault.Fault}
 use Rattle.nmgc_live.specs.declared.refusal.Fault.TheVariants as fault
 
 -- an open session was closed by nothing
@@ -36,6 +36,11 @@ takes_open o head (Close t bytes) p h = absurd (elim h [ inl e ↦ cc | inr e �
 takes_open o head (Did t (event.Stop row cycles)) p h = absurd (elim h [ inl e ↦ cc | inr e ↦ cc ])
 takes_open o head (Did t (event.Round rows)) p h = absurd (elim h [ inl e ↦ cc | inr e ↦ cc ])
 takes_open o head (Ready t) p h = p.2
+
+-- no stop is due if a line comes next
+pub takes_whole : (t : Transcript) → TakesLine t → HasNoStopDue t
+takes_whole t (inl e) due = (let f = sym e ∙ due in cc)
+takes_whole t (inr e) due = (let f = sym e ∙ due in cc)
 
 -- an input that closed no session needn't have ended
 pub not_ended : (t : Transcript) (now : Option (List ℕ)) → is_open t ≡ true → closed_by t ≡ Some [] → IsAtEnd now

@@ -10,7 +10,7 @@ use Rattle.nmgc_run_spec.specs.Lawful.{IsRunOf}
 use Rattle.nmgc_cycle.specs.{declared.command_queue.CommandQueue.CommandQueue, declared.session.Session.Session, declared.stop.StopEnd.StopEnd, Keeps.HasAnswered, Keeps.HasEnded, Observed.HandsOn, Sessions.HasSameLines, Sessions.accepted_in, Sessions.script_in, Shown.report_of, Shown.report_row, Stopping.ended_by, laws.Events.round_events, laws.Events.stop_events}
 use Rattle.nmgc_cycle.specs.declared.observer.Event.TheVariants as event
 use Rattle.nmgc_cycle.specs.declared.stop.StopEnd.TheVariants as answer
-use Rattle.nmgc_live.specs.{Meanings.IsNextJudged, Steps.AnswersEnd, Steps.DidRound, Steps.DidStop, Steps.HasComeToRound, Steps.HasNotComeToRound, Steps.HasReadLines, Steps.HasReadUpTo, Steps.IsAnswered, Steps.IsHeapOf, Steps.IsReading, Steps.IsRounding, Steps.WritesStop, Steps.tail_of, Transcripts.Transcript, Written.WritesEvent, declared.lines.LineReader.LineReader, declared.options.Options.Options, declared.refusal.Refusal.Refusal, declared.session.Heap.Heap, declared.session.Judged.Judged, declared.writer.ReportText.ReportText}
+use Rattle.nmgc_live.specs.{Meanings.IsNextJudged, Steps.AnswersEnd, Steps.DidRound, Steps.DidStop, Steps.HasComeToRound, Steps.IsAnswered, Steps.IsHeapOf, Steps.IsReading, Steps.IsRounding, Steps.WritesStop, Steps.tail_of, Transcripts.Transcript, Written.WritesEvent, declared.lines.LineReader.LineReader, declared.options.Options.Options, declared.session.Heap.Heap, declared.session.Judged.Judged, declared.writer.ReportText.ReportText}
 use Rattle.nmgc_live.specs.declared.session.Judged.TheVariants as judged
 
 -- the end of the run that a stop's answer means
@@ -58,7 +58,7 @@ round_did old new p q rows rounds stops cycles said = record {
 
 module _ (o : Options) (lb a tb w : Option (List ℕ)) (head : Script) (t : Transcript) (r : LineReader) (s : Session) where
   -- an open session reads lines behind its stop
-  reads_lines : (b : Bool) → b ≡ true → IsAnswered o lb a tb w head t r s b → IsReading o lb a tb w head t r s
+  pub reads_lines : (b : Bool) → b ≡ true → IsAnswered o lb a tb w head t r s b → IsReading o lb a tb w head t r s
   reads_lines true e h = record { played = h.played; reading = h.goes_on; carries = h.carries; read = h.read; written = h.written }
   reads_lines false e h = absurd cc
 
@@ -66,27 +66,6 @@ module _ (o : Options) (lb a tb w : Option (List ℕ)) (head : Script) (t : Tran
   goes_round : (b : Bool) → b ≡ false → IsAnswered o lb a tb w head t r s b → IsRounding o lb a tb w head t r s false
   goes_round true e h = absurd cc
   goes_round false e h = record { played = h.played; due = inr h.goes_on; is_open_is = h.is_open_is; carries = h.carries; read = h.read; written = h.written }
-
-module _ (o : Options) (a b w v : Option (List ℕ)) (r x : LineReader) (s y : Session) (was_open : Bool) where
-  -- an open session read lines up to its next round
-  pub come_open : was_open ≡ true → (is_open_now : Bool) → HasReadUpTo o a b w v r x s y is_open_now → HasComeToRound o a b w v r x s y was_open is_open_now
-  come_open e is_open_now q head t lb tb h =
-      let u = q head t lb tb (reads_lines o lb a tb w head t r s was_open e h) in (
-        u.0,
-        record {
-          played = u.1.played;
-          due = inl u.1.due;
-          is_open_is = u.1.is_open_is;
-          carries = u.1.carries;
-          read = u.1.read;
-          written = u.1.written;
-        },
-        u.2,
-      )
-
-  -- or was given up there
-  pub not_come : was_open ≡ true → (refusal : Refusal) → HasReadLines o a b w v r s refusal → HasNotComeToRound o a b w v r s was_open refusal
-  not_come e refusal q head t lb tb h = q head t lb tb (reads_lines o lb a tb w head t r s was_open e h)
 
 -- a closed session reads no line
 pub come_closed : (o : Options) (a w : Option (List ℕ)) (r : LineReader) (s : Session) (was_open : Bool) → was_open ≡ false →

@@ -4,12 +4,12 @@ use Rattle.std.specs.Prelude.{true, false, codes}
 use Rattle.std.specs.Io.KnownBytes.{Appends, Consumes, Keeps}
 use Rattle.nmgc_script.specs.declared.{script.Config.Config, script.Script.Script}
 use Rattle.nmgc_cycle.specs.{declared.session.Session.Session, Sessions.IsSession, Sessions.accepted_in}
-use Rattle.nmgc_live.specs.{Heads.IsBadInHead, Heads.IsNextHeadLine, Heads.IsNoHeadLine, Lines.ReadsCut, Lines.ReadsEnd, Lines.ReadsLine, Lines.fed, Lines.next_number, Lines.unread, Live.HasGivenUp, Live.IsAtBad, Live.IsRefused, Live.IsSound, Meanings.IsBad, Meanings.IsFullIn, Meanings.IsGiven, Meanings.IsNextJudged, Meanings.IsNoLine, Played.IsBadLine, Played.IsFullFor, Refusals.GivesUp, Refusals.bad_line, Steps.HasNotTakenHeadLine, Steps.HasReadLines, Steps.HasTakenHeadLine, Steps.HasTakenLine, Steps.IsHeading, Steps.IsHeapOf, Steps.IsReadUp, Steps.IsReading, Transcripts.Transcript, Transcripts.Bad, Transcripts.Close, Transcripts.CutOff, Transcripts.Given, Transcripts.Head, Transcripts.Quiet, Transcripts.Round, Transcripts.bytes_of, Transcripts.number_of, Transcripts.round_of, Transcripts.text_of, declared.lines.LineReader.LineReader, declared.options.Options.Options, declared.refusal.Fault.Fault, declared.refusal.Refusal.Refusal, declared.session.Heap.Heap}
+use Rattle.nmgc_live.specs.{Heads.IsBadInHead, Heads.IsNextHeadLine, Heads.IsNoHeadLine, Lines.ReadsCut, Lines.ReadsEnd, Lines.ReadsLine, Lines.fed, Lines.next_number, Lines.unread, Live.HasGivenUp, Live.IsAtBad, Live.IsRefused, Live.IsSound, Meanings.IsBad, Meanings.IsFullIn, Meanings.IsGiven, Meanings.IsNextJudged, Meanings.IsNoLine, Played.IsBadLine, Played.IsFullFor, Refusals.GivesUp, Refusals.bad_line, Steps.HasNotTakenHeadLine, Steps.HasReadLines, Steps.HasTakenHeadLine, Steps.HasTakenLine, Steps.IsHeading, Steps.IsHeapOf, Steps.IsReading, Transcripts.Transcript, Transcripts.Bad, Transcripts.Close, Transcripts.CutOff, Transcripts.Given, Transcripts.Head, Transcripts.Quiet, Transcripts.Round, Transcripts.TakesLine, Transcripts.bytes_of, Transcripts.number_of, Transcripts.round_of, Transcripts.text_of, declared.lines.LineReader.LineReader, declared.options.Options.Options, declared.refusal.Fault.Fault, declared.refusal.Refusal.Refusal, declared.session.Heap.Heap, Steps.IsRounding}
 use Rattle.nmgc_live.specs.declared.refusal.Fault.TheVariants as fault
 use Rattle.nmgc_live.specs.declared.refusal.Refusal.TheVariants as no
 use Rattle.nmgc_live.specs.declared.session.Judged.TheVariants as judged
 use Rattle.nmgc_live.specs.declared.head.HeadLine.TheVariants as head
-use Rattle.nmgc_live.proofs.{Heading.at_bad, Heading.at_cut, Heading.given_up, Heading.head_ended, Heading.head_fault, Heading.heading_begins, Heading.heading_cut, Heading.heading_on, Heading.heading_past, Lining.front_on, Lining.full_for, Lining.goes_closed, Lining.goes_cut, Lining.goes_on, Lining.goes_past, Lining.goes_quiet, Lining.goes_round, Lining.read_end, Lining.read_fault, Lining.read_line, Lining.read_more, Lining.read_next, Lining.sound, Played.bad_for, Played.fed_some}
+use Rattle.nmgc_live.proofs.{Heading.at_bad, Heading.at_cut, Heading.given_up, Heading.head_ended, Heading.head_fault, Heading.heading_begins, Heading.heading_cut, Heading.heading_on, Heading.heading_past, Lining.front_on, Lining.full_for, Lining.goes_closed, Lining.goes_cut, Lining.goes_on, Lining.goes_past, Lining.goes_quiet, Lining.goes_round, Lining.read_end, Lining.read_fault, Lining.read_line, Lining.read_more, Lining.read_next, Lining.sound, Played.bad_for, Played.fed_some, Played.takes_whole}
 
 pub appends_kept : (a b c : Option (List ℕ)) (xs : List ℕ) → Appends a b xs → Keeps b c → Appends a c xs
 appends_kept None b c xs p q = tt
@@ -19,13 +19,14 @@ appends_kept (Some u) (Some v) (Some w) xs p q = q ∙ p
 
 -- a session that is given up at a bad line, behind a transcript whose text was written
 pub refused_bad : (o : Options) (before b taken w v : Option (List ℕ)) (head : Script) (t : Transcript) (n : ℕ) (f : Fault) (refusal : Refusal) →
-    Appends taken w (text_of t) → n ≡ next_number (number_of t) → IsAtBad o before b head t f → GivesUp w v o n f refusal →
+    Appends taken w (text_of t) → n ≡ next_number (number_of t) → TakesLine t → (o.passes_over ≡ false → IsAtBad o before b head t f) → GivesUp w v o n f refusal →
     IsRefused o before b taken v head t refusal
-refused_bad o before b taken w v head t n f (no.Bad m g) said number at q =
-    (appends_kept taken w v (text_of t) said q.3, q.1 ∙ number, subst (λ (e : Fault). IsAtBad o before b head t e) (sym q.2) at)
-refused_bad o before b taken w v head t n f no.ReadFault said number at q = elim q [ ]
-refused_bad o before b taken w v head t n f no.NoMemory said number at q = appends_kept taken w v (text_of t) said q
-refused_bad o before b taken w v head t n f no.WriteFault said number at q =
+refused_bad o before b taken w v head t n f (no.Bad m g) said number takes at q =
+    (appends_kept taken w v (text_of t) said q.3, q.1 ∙ number, subst (λ (e : Fault). IsAtBad o before b head t e) (sym q.2) (at q.0))
+refused_bad o before b taken w v head t n f no.ReadFault said number takes at q = elim q [ ]
+refused_bad o before b taken w v head t n f no.NoMemory said number takes at q =
+    (appends_kept taken w v (text_of t) said q, takes_whole t takes)
+refused_bad o before b taken w v head t n f no.WriteFault said number takes at q =
     (bad_line n f, inr (inr (no.Bad n f, refl)), front_on taken w v (text_of t) (bad_line n f) said q)
 
 -- the bytes that a line took
@@ -69,7 +70,7 @@ module _ (o : Options) (heap : Heap) (a b w : Option (List ℕ)) (r x : LineRead
       moved : IsReading o lb a tb w head t r y
       moved = same lb tb head t q.0 h
 
-      by_end : ReadsLine r x a b (codes "end") ⊎ ReadsEnd r x a b → (u : Transcript) × IsReadUp o lb b tb w head u x z false × (round_of u ≡ round_of t)
+      by_end : ReadsLine r x a b (codes "end") ⊎ ReadsEnd r x a b → (u : Transcript) × IsRounding o lb b tb w head u x z false × (round_of u ≡ round_of t)
       by_end (inl line) = (
         Close t (fed (codes "end")),
         goes_closed o lb a b tb w head t r y moved x n (fed (codes "end")) z
@@ -124,26 +125,29 @@ module _ (o : Options) (heap : Heap) (a b w : Option (List ℕ)) (r x : LineRead
   bad_refused f v refusal j q head t lb tb h = (
     t,
     (by_line j.1).0,
-    refused_bad o lb b tb w v head t x.number f refusal h.written (n ∙ ap next_number h.read.number) (by_line j.1).1 q,
+    refused_bad o lb b tb w v head t x.number f refusal h.written (n ∙ ap next_number h.read.number) (inr h.reading) (by_line j.1).1 q,
   )
     where
       by_line : ((line : List ℕ) × ReadsLine r x a b line × IsBad heap.words heap.count o.has_prompts (IsFullIn y) line f) ⊎
-          ((f ≡ fault.Line) × ReadsCut r x a b) → IsSound o lb b head t × IsAtBad o lb b head t f
+          ((f ≡ fault.Line) × ReadsCut r x a b) → IsSound o lb b head t × (o.passes_over ≡ false → IsAtBad o lb b head t f)
       by_line (inl l) = (
         sound o lb a b tb w head t r s h l.1.0 l.1.1,
-        (
+        λ stops. (
           inr h.reading,
-          inl (l.0, unread x, read_next lb a b r x (bytes_of t) h.read.read l.0 l.1, l.1.3, bad_is lb tb head t l.0 f j.0 h l.2),
+          inl (stops, inl (l.0, unread x, read_next lb a b r x (bytes_of t) h.read.read l.0 l.1, l.1.3, bad_is lb tb head t l.0 f j.0 h l.2)),
         ),
       )
       by_line (inr c) = (
         sound o lb a b tb w head t r s h c.1.0.0 c.1.0.1,
-        (
+        λ stops. (
           inr h.reading,
-          inr (inl (
-            c.0,
-            (unread r ++ c.1.0.0, read_more lb a b r x (bytes_of t) h.read.read c.1.0.0 c.1.0.1, c.1.0.2, c.1.1, c.1.3),
-          )),
+          inl (
+            stops,
+            inr (
+              c.0,
+              (unread r ++ c.1.0.0, read_more lb a b r x (bytes_of t) h.read.read c.1.0.0 c.1.0.1, c.1.0.2, c.1.1, c.1.3),
+            ),
+          ),
         ),
       )
 
@@ -151,7 +155,8 @@ module _ (o : Options) (heap : Heap) (a b w : Option (List ℕ)) (r x : LineRead
 pub none_refused : (o : Options) (a b w : Option (List ℕ)) (r : LineReader) (s : Session) (refusal : Refusal) → IsNoLine r a b refusal →
     HasReadLines o a b w w r s refusal
 none_refused o a b w r s no.ReadFault q head t lb tb h = (t, sound o lb a b tb w head t r s h q.0 q.1, read_fault o lb a b tb w head t r s h q)
-none_refused o a b w r s no.NoMemory q head t lb tb h = (t, sound o lb a b tb w head t r s h q.0 q.1, h.written)
+none_refused o a b w r s no.NoMemory q head t lb tb h =
+    (t, sound o lb a b tb w head t r s h q.0 q.1, (h.written, takes_whole t (inr h.reading)))
 none_refused o a b w r s no.WriteFault q head t lb tb h = elim q [ ]
 none_refused o a b w r s (no.Bad m g) q head t lb tb h = elim q [ ]
 
@@ -166,7 +171,7 @@ no_head = record {
 -- the same in a session's head
 module _ (o : Options) (a b w : Option (List ℕ)) (r x : LineReader) (old new : List ℕ) (n : x.number ≡ next_number r.number) where
   pub more_taken : IsNextHeadLine r x a b old new head.More → HasTakenHeadLine o a b w w r x old new None
-  more_taken q t lb tb h = (Head t q.0, subst (λ (l : List ℕ). IsHeading o lb b tb w l x (Head t q.0)) (sym q.2) (heading_on o lb a b tb w old r x t h n q.0 q.1))
+  more_taken q t lb tb h = (Head t q.0, subst (λ (l : List ℕ). IsHeading o lb b tb w l x (Head t q.0)) (sym q.2) (heading_on o lb a b tb w old r x t h n q.0 q.1 q.3))
 
   pub begun_taken : (script : Script) → IsNextHeadLine r x a b old new (head.Begun script) → HasTakenHeadLine o a b w w r x old new (Some script)
   begun_taken script q t lb tb h = heading_begins o lb a b tb w old r x t h n script q.0 q.1
@@ -191,8 +196,8 @@ module _ (o : Options) (a b w : Option (List ℕ)) (r x : LineReader) (old new :
       GivesUp w v o x.number f refusal → HasNotTakenHeadLine o a b w v r old refusal
   bad_head_refused f v refusal j q t lb tb h = by_line j.1
     where
-      refused : IsAtBad o lb b no_head t f → IsRefused o lb b tb v no_head t refusal
-      refused at = refused_bad o lb b tb w v no_head t x.number f refusal h.written (n ∙ ap next_number h.read.number) at q
+      refused : (o.passes_over ≡ false → IsAtBad o lb b no_head t f) → IsRefused o lb b tb v no_head t refusal
+      refused at = refused_bad o lb b tb w v no_head t x.number f refusal h.written (n ∙ ap next_number h.read.number) (inl h.in_head) at q
 
       by_line : ((line : List ℕ) × ReadsLine r x a b line × IsBadInHead old line f) ⊎ ((f ≡ fault.Line) × ReadsCut r x a b) →
           HasGivenUp o lb b tb v refusal
@@ -205,7 +210,8 @@ pub none_head_refused : (o : Options) (a b w : Option (List ℕ)) (r : LineReade
     HasNotTakenHeadLine o a b w w r old refusal
 none_head_refused o a b w r old no.ReadFault q t lb tb h =
     given_up o lb a b tb w old r r t h no_head w no.ReadFault q.0 q.1 (head_fault o lb a b tb w old r r t h no_head q)
-none_head_refused o a b w r old no.NoMemory q t lb tb h = given_up o lb a b tb w old r r t h no_head w no.NoMemory q.0 q.1 h.written
+none_head_refused o a b w r old no.NoMemory q t lb tb h =
+    given_up o lb a b tb w old r r t h no_head w no.NoMemory q.0 q.1 (h.written, takes_whole t (inl h.in_head))
 none_head_refused o a b w r old no.WriteFault q t lb tb h = elim q [ ]
 none_head_refused o a b w r old (no.Bad m f) q t lb tb h =
     given_up o lb a b tb w old r r t h no_head w (no.Bad m f) [] q.2 (head_ended o lb a b tb w old r r t h no_head m f q)

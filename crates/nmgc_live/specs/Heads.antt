@@ -43,14 +43,35 @@ HasBadLineWithin text c = (n : ℕ) × IsFaultOfText (end_of text) (kept_lines t
 abbrev pub SpellsOther : List ℕ → Type 0
 SpellsOther text = (script : Script) × Spells text script × (IsHead text script → ⊥)
 
--- a line of the head is bad for this fault, behind the lines that were kept. `begin` is bad if they are no head. The first line
--- has to be `nmgc 3`. Any other line is bad if it is a script's first bad line, or a command
+-- a line of the head has to be kept: it is neither empty nor a comment nor `begin`
+abbrev pub HasToBeKept : List ℕ → Type 0
+HasToBeKept line = (is_blank_or_comment line ≡ false) × (line ≢ codes "begin")
+
+-- a text may go on to a head: it spells a script without commands, or a script's first bad line is behind all its lines
+abbrev pub IsHeadSoFar : List ℕ → Type 0
+IsHeadSoFar text = ((script : Script) × Spells text script × HasNoCommands script) ⊎
+    ((n : ℕ) × ((c : Cause) × IsFaultOfText (end_of text) (kept_lines text) n c × (length (lines_of text) < n)))
+
+-- a line of the head is good behind these lines: it is empty or a comment, or the head may go on from it. The first line is `nmgc 3`
+abbrev pub IsGoodInHead : List ℕ → List ℕ → Type 0
+IsGoodInHead text line = (is_blank_or_comment line ≡ true) ⊎
+    (HasToBeKept line × (text ≡ [] → line ≡ codes "nmgc 3") × IsHeadSoFar (text ++ fed line))
+
+-- `begin` is bad behind these lines, for this cause: they are no head
+abbrev pub IsBadBegin : List ℕ → Cause → Type 0
+IsBadBegin text c = HasBadLine text c ⊎ ((c ≡ cause.Thread) × SpellsOther text)
+
+-- a line that has to be kept is bad behind these lines, for this cause. The first line has to be `nmgc 3`. Any line is bad if it is
+-- a script's first bad line, or a command
+abbrev pub IsBadScriptLine : List ℕ → List ℕ → Cause → Type 0
+IsBadScriptLine text line c = ((c ≡ cause.Version) × (text ≡ []) × (line ≢ codes "nmgc 3")) ⊎
+    (HasBadLineWithin (text ++ fed line) c ⊎ ((c ≡ cause.Thread) × SpellsOther (text ++ fed line)))
+
+-- a line of the head is bad for this fault, behind the lines that were kept. A line is too long by itself, or a line that has to be
+-- kept is too long for the head
 abbrev pub IsBadInHead : List ℕ → List ℕ → Fault → Type 0
-IsBadInHead text line (fault.Script c) = (is_blank_or_comment line ≡ false) × (
-    ((line ≡ codes "begin") × (HasBadLine text c ⊎ ((c ≡ cause.Thread) × SpellsOther text))) ⊎
-    (((c ≡ cause.Version) × (text ≡ []) × (line ≢ codes "nmgc 3")) ⊎
-    (HasBadLineWithin (text ++ fed line) c ⊎ ((c ≡ cause.Thread) × SpellsOther (text ++ fed line)))))
-IsBadInHead text line fault.Line = (MAX_LINE_BYTES < length line) ⊎ (MAX_HEAD_BYTES ≤ length text + length line)
+IsBadInHead text line (fault.Script c) = ((line ≡ codes "begin") × IsBadBegin text c) ⊎ (HasToBeKept line × IsBadScriptLine text line c)
+IsBadInHead text line fault.Line = (MAX_LINE_BYTES < length line) ⊎ (HasToBeKept line × (MAX_HEAD_BYTES ≤ length text + length line))
 IsBadInHead text line fault.TooMany = ⊥
 
 -- the cause for which an input may not end behind these lines of the head: a line is missing, which may be `begin`
@@ -65,13 +86,14 @@ IsBegin text (head.Bad f) = IsBadInHead text (codes "begin") f
 
 -- a line of the head was judged so, and was kept if it is good
 abbrev pub IsHeadLine : List ℕ → List ℕ → List ℕ → HeadLine → Type 0
-IsHeadLine old new line head.More = new ≡ with_line old line
+IsHeadLine old new line head.More = (new ≡ with_line old line) × IsGoodInHead old line
 IsHeadLine old new line (head.Begun script) = (new ≡ old) × (line ≡ codes "begin") × IsHead old script
 IsHeadLine old new line (head.Bad f) = (new ≡ old) × IsBadInHead old line f
 
 -- a line of the head was read and judged so
 abbrev pub IsNextHeadLine : LineReader → LineReader → Option (List ℕ) → Option (List ℕ) → List ℕ → List ℕ → HeadLine → Type 0
-IsNextHeadLine before now left_old left_new old new head.More = (line : List ℕ) × ReadsLine before now left_old left_new line × (new ≡ with_line old line)
+IsNextHeadLine before now left_old left_new old new head.More = (line : List ℕ) × ReadsLine before now left_old left_new line ×
+    (new ≡ with_line old line) × IsGoodInHead old line
 IsNextHeadLine before now left_old left_new old new (head.Begun script) = ReadsLine before now left_old left_new (codes "begin") × IsHead old script
 IsNextHeadLine before now left_old left_new old new (head.Bad f) = (new ≡ old) × (((line : List ℕ) × ReadsLine before now left_old left_new line ×
     IsBadInHead old line f) ⊎ ((f ≡ fault.Line) × ReadsCut before now left_old left_new))

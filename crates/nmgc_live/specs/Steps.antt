@@ -5,9 +5,10 @@ use Rattle.nmgc_script.specs.declared.script.Script.{Script}
 use Rattle.nmgc_journal.specs.{Printing.round_text, Printing.stop_text, Text.end_text, declared.report.End.End, declared.report.RoundRows.RoundRows, declared.report.StopRow.StopRow, declared.report.CycleRow.CycleRow}
 use Rattle.nmgc_journal.specs.declared.report.End.TheVariants as ending
 use Rattle.nmgc_run_spec.specs.{Lawful.IsRunOf}
-use Rattle.nmgc_cycle.specs.{declared.observer.Event.Event, declared.session.Session.Session, Keeps.HasEnded, Observed.AreEventsOf, Sessions.script_in, Shown.report_of}
+use Rattle.nmgc_cycle.specs.{declared.observer.Event.Event, declared.session.Session.Session, Keeps.HasEnded, Observed.AreEventsOf, Sessions.IsSession, Sessions.script_in, Shown.report_of}
 use Rattle.nmgc_cycle.specs.declared.observer.Event.TheVariants as event
-use Rattle.nmgc_live.specs.{Heads.IsHead, Lines.unread, Live.HasGivenUp, Live.IsRefused, Live.IsSound, Played.Carries, Played.IsPlayed, Transcripts.InHead, Transcripts.Reading, Transcripts.RoundDue, Transcripts.StopDue, Transcripts.Stopped, Transcripts.Transcript, Transcripts.bytes_of, Transcripts.closed_by, Transcripts.events_of, Transcripts.given_to, Transcripts.head_of, Transcripts.is_open, Transcripts.number_of, Transcripts.phase_of, Transcripts.round_of, Transcripts.text_of, declared.lines.LineReader.LineReader, declared.options.Options.Options, declared.refusal.Refusal.Refusal, declared.session.Heap.Heap, declared.writer.ReportText.ReportText}
+use Rattle.nmgc_live.specs.{Heads.IsHead, Lines.unread, Live.EndsAtCuts, Live.HasGivenUp, Live.IsRefused, Live.IsSound, Played.Carries, Played.IsPlayed, Transcripts.HasNoStopDue, Transcripts.InHead, Transcripts.Reading, Transcripts.RoundDue, Transcripts.StopDue, Transcripts.Stopped, Transcripts.Transcript, Transcripts.bytes_of, Transcripts.closed_by, Transcripts.events_of, Transcripts.given_to, Transcripts.head_of, Transcripts.is_open, Transcripts.number_of, Transcripts.phase_of, Transcripts.round_of, Transcripts.text_of, declared.lines.LineReader.LineReader, declared.options.Options.Options, declared.refusal.Refusal.Refusal, declared.session.Heap.Heap, declared.writer.ReportText.ReportText, Lines.IsReader, Live.HasEndedRun, declared.session.LiveSession.LiveSession}
+use Rattle.nmgc_cli.specs.Output.{status_of}
 
 -- the numbers of a session's heap
 abbrev pub IsHeapOf : Heap → Session → Type 0
@@ -51,6 +52,7 @@ pub record IsReadTo (left_before left_now : Option (List ℕ)) (lines : LineRead
   pub read : Consumes left_before left_now (bytes_of t ++ unread lines)
   pub number : lines.number ≡ number_of t
   pub closed : closed_by t ≡ Some [] → IsAtEnd left_now
+  pub cuts : EndsAtCuts left_before t
 
 -- a session that reads lines: all of its transcript was written
 pub record IsReading (o : Options) (left_before left_now taken_before taken_now : Option (List ℕ)) (head : Script) (t : Transcript) (lines : LineReader) (session : Session) : Type 0 where
@@ -60,10 +62,11 @@ pub record IsReading (o : Options) (left_before left_now taken_before taken_now 
   pub read : IsReadTo left_before left_now lines t
   pub written : Appends taken_before taken_now (text_of t)
 
--- a transcript went on to the line `round`, or to the session's end
-pub record IsReadUp (o : Options) (left_before left_now taken_before taken_now : Option (List ℕ)) (head : Script) (t : Transcript) (lines : LineReader) (session : Session) (is_open_now : Bool) : Type 0 where
+-- a session whose next step is a round
+pub record IsRounding (o : Options) (left_before left_now taken_before taken_now : Option (List ℕ)) (head : Script) (t : Transcript) (lines : LineReader)
+    (session : Session) (is_open_now : Bool) : Type 0 where
   pub played : IsPlayed o head t
-  pub due : phase_of t ≡ RoundDue
+  pub due : (phase_of t ≡ RoundDue) ⊎ ((phase_of t ≡ Stopped) × (is_open t ≡ false))
   pub is_open_is : is_open t ≡ is_open_now
   pub carries : Carries false head t session
   pub read : IsReadTo left_before left_now lines t
@@ -74,7 +77,7 @@ abbrev pub HasReadUpTo : Options → Option (List ℕ) → Option (List ℕ) →
 HasReadUpTo o left_old left_new taken_old taken_new lines_old lines_new old new is_open_now =
     (head : Script) (t : Transcript) (left_before taken_before : Option (List ℕ)) →
     IsReading o left_before left_old taken_before taken_old head t lines_old old →
-    (u : Transcript) × IsReadUp o left_before left_new taken_before taken_new head u lines_new new is_open_now × (round_of u ≡ round_of t)
+    (u : Transcript) × IsRounding o left_before left_new taken_before taken_new head u lines_new new is_open_now × (round_of u ≡ round_of t)
 
 -- a session was given up while lines were read
 abbrev pub HasReadLines : Options → Option (List ℕ) → Option (List ℕ) → Option (List ℕ) → Option (List ℕ) → LineReader → Session → Refusal → Type 0
@@ -110,6 +113,7 @@ pub record HasReadHead (o : Options) (left_before left_now taken_before taken_no
   pub read : IsReadTo left_before left_now lines t
   pub before : Transcript
   pub before_sound : IsSound o left_before left_now head before
+  pub before_whole : HasNoStopDue before
   pub written : Appends taken_before taken_now (text_of before)
   pub pending : text_of t ≡ text_of before ++ codes "report 1\n"
 
@@ -137,6 +141,7 @@ pub record IsStopping (o : Options) (left_before left_now taken_before taken_now
   pub read : IsReadTo left_before left_now lines t
   pub before : Transcript
   pub before_sound : IsSound o left_before left_now head before
+  pub before_whole : HasNoStopDue before
   pub written : Appends taken_before taken_now (text_of before)
   pub pending : text_of t ≡ text_of before ++ report.text.items
 
@@ -150,16 +155,6 @@ pub record IsAnswered (o : Options) (left_before left_now taken_before taken_now
     (session : Session) (is_open_now : Bool) : Type 0 where
   pub played : IsPlayed o head t
   pub goes_on : GoesOn is_open_now t
-  pub is_open_is : is_open t ≡ is_open_now
-  pub carries : Carries false head t session
-  pub read : IsReadTo left_before left_now lines t
-  pub written : Appends taken_before taken_now (text_of t)
-
--- a session whose next step is a round
-pub record IsRounding (o : Options) (left_before left_now taken_before taken_now : Option (List ℕ)) (head : Script) (t : Transcript) (lines : LineReader)
-    (session : Session) (is_open_now : Bool) : Type 0 where
-  pub played : IsPlayed o head t
-  pub due : (phase_of t ≡ RoundDue) ⊎ ((phase_of t ≡ Stopped) × (is_open t ≡ false))
   pub is_open_is : is_open t ≡ is_open_now
   pub carries : Carries false head t session
   pub read : IsReadTo left_before left_now lines t
@@ -179,6 +174,48 @@ HasNotComeToRound o left_old left_new taken_old taken_new lines_old old was_open
     (head : Script) (t : Transcript) (left_before taken_before : Option (List ℕ)) →
     IsAnswered o left_before left_old taken_before taken_old head t lines_old old was_open →
     (u : Transcript) × IsSound o left_before left_new head u × IsRefused o left_before left_new taken_before taken_new head u refusal
+
+-- the parts of a session behind its head fit together; `stop` says whether a stop comes next
+pub record IsLiveSession (stop : Bool) (live : LiveSession) : Type 0 where
+  pub reader : IsReader live.lines
+  pub session : IsSession stop live.session
+  pub is_open_is : live.session.is_open ≡ live.is_open
+  pub heap : IsHeapOf live.heap live.session
+
+-- the same behind a stop at which the run didn't end, and whose text was written
+pub record IsAfterStop (live : LiveSession) : Type 0 where
+  pub parts : IsLiveSession false live
+  pub goes_on : live.session.collector.answered ≡ None
+  pub written : live.report.text.items ≡ []
+
+-- a session at its next stop, and one behind it
+abbrev pub IsAtStop : Options → Option (List ℕ) → Option (List ℕ) → Option (List ℕ) → Option (List ℕ) → LiveSession → Type 0
+IsAtStop o left_before left_now taken_before taken_now live = IsLiveSession true live × ((head : Script) ×
+    IsStopping o left_before left_now taken_before taken_now head live.lines live.session live.is_open live.report)
+
+abbrev pub IsAtLines : Options → Option (List ℕ) → Option (List ℕ) → Option (List ℕ) → Option (List ℕ) → LiveSession → Type 0
+IsAtLines o left_before left_now taken_before taken_now live = IsAfterStop live × ((head : Script) × ((t : Transcript) ×
+    IsAnswered o left_before left_now taken_before taken_now head t live.lines live.session live.is_open × (round_of t ≡ live.report.round)))
+
+-- a stop was answered and the run goes on, or it ended, or the session was given up there
+pub record HasAnsweredStop (taken_old taken_new : Option (List ℕ)) (old new : LiveSession) (end : Option End) : Type 0 where
+  pub goes_on : end ≡ None → (o : Options) (left_before left_now taken_before : Option (List ℕ)) →
+      IsAtStop o left_before left_now taken_before taken_old old → IsAtLines o left_before left_now taken_before taken_new new
+  pub ends : (e : End) → end ≡ Some e → (o : Options) (left_before left_now taken_before : Option (List ℕ)) →
+      IsAtStop o left_before left_now taken_before taken_old old → HasEndedRun o left_before left_now taken_before taken_new (status_of e)
+
+abbrev pub HasNotAnsweredStop : Option (List ℕ) → Option (List ℕ) → LiveSession → Refusal → Type 0
+HasNotAnsweredStop taken_old taken_new old refusal = (o : Options) (left_before left_now taken_before : Option (List ℕ)) →
+    IsAtStop o left_before left_now taken_before taken_old old → HasGivenUp o left_before left_now taken_before taken_new refusal
+
+-- a session came to its next stop, or was given up before
+abbrev pub HasComeToStop : Options → Option (List ℕ) → Option (List ℕ) → Option (List ℕ) → Option (List ℕ) → LiveSession → LiveSession → Type 0
+HasComeToStop o left_old left_new taken_old taken_new old new = (left_before taken_before : Option (List ℕ)) →
+    IsAtLines o left_before left_old taken_before taken_old old → IsAtStop o left_before left_new taken_before taken_new new
+
+abbrev pub HasNotComeToStop : Options → Option (List ℕ) → Option (List ℕ) → Option (List ℕ) → Option (List ℕ) → LiveSession → Refusal → Type 0
+HasNotComeToStop o left_old left_new taken_old taken_new old refusal = (left_before taken_before : Option (List ℕ)) →
+    IsAtLines o left_before left_old taken_before taken_old old → HasGivenUp o left_before left_new taken_before taken_new refusal
 
 -- a line of the head was read and answered, and another one follows, or it was `begin`
 abbrev pub HasTakenHeadLine : Options → Option (List ℕ) → Option (List ℕ) → Option (List ℕ) → Option (List ℕ) → LineReader → LineReader → List ℕ → List ℕ →

@@ -1,5 +1,5 @@
 -- Transcripts of sessions: the lines read, the events of the run and the answers written, in their order.
-use Rattle.std.specs.Prelude.{ℕ, ◌≡◌, ◌==◌, ◌⊎◌, ◌++◌, List, [], ◌∷◌, codes, Bool, true, false, Option, Some, None, if◌then◌else◌}
+use Rattle.std.specs.Prelude.{ℕ, ◌≡◌, ◌≢◌, ◌==◌, ◌⊎◌, ◌++◌, List, [], ◌∷◌, codes, Bool, true, false, Option, Some, None, if◌then◌else◌}
 use Rattle.nmgc_world_spec.specs.declared.command.Command.{Command}
 use Rattle.nmgc_cycle.specs.{EventTexts.event_text, EventTexts.next_round, declared.observer.Event.Event}
 use Rattle.nmgc_cycle.specs.declared.observer.Event.TheVariants as event
@@ -183,6 +183,10 @@ report_in (Round t) = report_in t
 report_in (Close t bytes) = report_in t
 report_in (Did t e) = report_in t ++ event_text (round_of t) e
 report_in (Ready t) = report_in t
+
+-- no stop is due: the beginning and each round have their stops
+abbrev pub HasNoStopDue : Transcript → Type 0
+HasNoStopDue t = phase_of t ≢ StopDue
 
 -- a line comes next
 abbrev pub TakesLine : Transcript → Type 0

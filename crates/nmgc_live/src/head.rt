@@ -5,9 +5,9 @@
 //! line, the parser's fault is behind the last line, and the head goes on.
 //!
 //! Easy to get wrong: empty lines, comments and bad lines aren't kept. So the parser's line numbers are no numbers of the source.
-ghost use Rattle.std.specs.Prelude.{◌≡◌, ◌≤◌, ◌+◌, ◌<◌, ◌⊎◌, ◌↔◌, IfErr, IfOk, IfSome, IsErrOf, IsTrue, OnOk, [], false, length, true};
+ghost use Rattle.std.specs.Prelude.{List, None, ℕ, ◌≡◌, ◌≢◌, ◌≤◌, ◌++◌, ◌∷◌, ◌+◌, ◌<◌, ◌⊎◌, ◌↔◌, IfErr, IfOk, IfSome, IsErrOf, IsTrue, OnOk, [], codes, false, length, true};
 ghost use Rattle.nmgc_io.specs.Text.{Rose, is_blank_or_comment, lines_of};
-ghost use Rattle.nmgc_live.specs.Heads.{HasBadLineWithin, HasNoCommands, IsBegin, IsEndRefusal, IsHeadLine, IsNextHeadLine, IsNoHeadLine, SpellsOther};
+ghost use Rattle.nmgc_live.specs.Heads.{HasBadLineWithin, HasNoCommands, IsBegin, IsEndRefusal, IsHeadLine, IsHeadSoFar, IsNextHeadLine, IsNoHeadLine, SpellsOther};
 ghost use Rattle.nmgc_live.specs.Lines.{IsReader, next_number, unread};
 ghost use Rattle.nmgc_live.specs.Live.{HasGivenUp};
 ghost use Rattle.nmgc_live.specs.Steps.{HasNotTakenHeadLine, HasReadHead, HasTakenHeadLine};
@@ -154,6 +154,8 @@ impl Head {
     fn add(&mut self, alloc: Global, line: &[u8]) -> Result<HeadLine, NoMemory>
         requires room { length self.old.text.items + length line.now < MAX_HEAD_BYTES }
         requires kept { is_blank_or_comment line.now ≡ false }
+        requires no_begin { line.now ≢ codes "begin" }
+        requires first { self.old.text.items ≡ [] → line.now ≡ codes "nmgc 3" }
         ensures within { OnOk result (length self.new.text.items ≤ MAX_HEAD_BYTES) }
         ensures judged { IfOk result (λ judged. IsHeadLine self.old.text.items self.new.text.items line.now judged) }
     {
@@ -207,8 +209,10 @@ impl Head {
 
     // Returns the cause for which a line of the text is bad, or `None`. A line that is missing behind the text makes none bad.
     fn fault_of_last(&self, alloc: Global) -> Result<Option<Cause>, NoMemory>
-        requires { length self.now.text.items ≤ MAX_HEAD_BYTES }
-        ensures { IfOk result (λ fault. IfSome fault (λ c. HasBadLineWithin self.now.text.items c ⊎ ((c ≡ Cause.Thread) × SpellsOther self.now.text.items))) }
+        requires within { length self.now.text.items ≤ MAX_HEAD_BYTES }
+        requires lines { (front : List ℕ) × (self.now.text.items ≡ front ++ 10 ∷ []) }
+        ensures none { IfOk result (λ fault. fault ≡ None → IsHeadSoFar self.now.text.items) }
+        ensures some { IfOk result (λ fault. IfSome fault (λ c. HasBadLineWithin self.now.text.items c ⊎ ((c ≡ Cause.Thread) × SpellsOther self.now.text.items))) }
     {
         match parse(alloc, &self.text) {
             Ok(script) => {
@@ -230,10 +234,11 @@ impl Head {
     }
 }
 
-// Returns the number of line feeds in a text.
+// Returns the number of line feeds in a text. It is the number of lines, if a line feed comes last.
 fn count_lines(text: &[u8]) -> u64
     requires { length text.now ≤ MAX_HEAD_BYTES }
-    ensures { result ≤ length (lines_of text.now) }
+    ensures most { result ≤ length (lines_of text.now) }
+    ensures all { (front : List ℕ) → text.now ≡ front ++ 10 ∷ [] → length (lines_of text.now) ≤ result }
 {
     let mut count: u64 = 0;
     for byte in text {

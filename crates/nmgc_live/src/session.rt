@@ -14,7 +14,7 @@ ghost use Rattle.nmgc_cycle.specs.Sessions.{HasSameLines, HaveRoomAll, IsSession
 ghost use Rattle.nmgc_live.specs.Lines.{IsReader, next_number};
 ghost use Rattle.nmgc_live.specs.Live.{HasEndedRun, HasGivenUp, IsLive};
 ghost use Rattle.nmgc_live.specs.Meanings.{HasToGive, IsJudged, IsNextJudged, IsNoLine, IsRoundJudged, IsWordFault};
-ghost use Rattle.nmgc_live.specs.Steps.{DidRound, DidStop, HasComeToRound, HasNotComeToRound, HasReadLines, HasReadUpTo, HasTakenLine, IsHeapOf, WritesStop, open_after, tail_of};
+ghost use Rattle.nmgc_live.specs.Steps.{DidRound, DidStop, HasAnsweredStop, HasComeToRound, HasComeToStop, HasNotAnsweredStop, HasNotComeToRound, HasNotComeToStop, HasReadLines, HasTakenLine, IsAfterStop, IsAtStop, IsHeapOf, IsLiveSession, WritesStop, open_after, tail_of};
 
 use crate::head::read_head;
 use crate::lines::{LineReader, NextLine};
@@ -23,7 +23,7 @@ use crate::prompts::{help, prompt};
 use crate::refusal::{Fault, Refusal, answer_bad, write_refusal};
 use crate::writer::ReportText;
 use nmgc_cli::Status;
-use nmgc_cycle::{Event, Observer, RunFault, Session, StopEnd, StopRows, put_rows_in_order};
+use nmgc_cycle::{EndedCycles, Event, Observer, RunFault, Session, StopEnd, StopRows};
 use nmgc_io::{Sink, Source, cut, is_blank_or_comment, read_number, write_all};
 use nmgc_journal::End;
 use nmgc_lists::NoMemory;
@@ -32,7 +32,20 @@ use nmgc_script::{Cause, LineFault, command_of_line};
 use std::alloc::Global;
 use std::thread::Threads;
 
-/// Does a session: reads lines from `source`, and writes the report's text to `sink` as it comes. Returns the status.
+/// Does a session: reads lines from `source`, writes the report's text to `sink` as it comes, and returns the status. Prompts
+/// and help go to `prompts`; its faults are ignored.
+///
+/// Behind the head the text of the first stop is written, and then the replies and the stop of each round. A line `ready`
+/// follows each stop while lines may come. A bad line that is passed over is answered at once. The status says how the
+/// session ended:
+///
+/// - `Done`: the line `end` or the source's end closed the session, and its run was done. The last line is `end done`.
+/// - `HeapFull`: a stop left fewer segments free than the reserve. The last line is `end heapfull ..`, behind the stop's.
+/// - `BadScript`: a line is bad and isn't passed over, or the source ended in the head. The last line is `bad line L CAUSE`,
+///   behind the answers to the lines before.
+/// - `ReadFault`: the source failed. Each whole line that came was answered. The last line is `read fault`.
+/// - `WriteFault`: the sink failed. It has a prefix of the text.
+/// - `NoMemory`: there was no memory. The last line is `no memory`, behind whole answers.
 pub fn live<R: Threads + Sync, S: Source, K: Sink, E: Sink>(
     alloc: Global,
     rt: &R,
@@ -67,37 +80,27 @@ fn session<R: Threads + Sync, S: Source, K: Sink, E: Sink>(
     ensures read_fault { IsErrOf result Refusal.ReadFault → Rose (S.faults source.old) (S.faults source.new) }
     ensures write_fault { IsErrOf result Refusal.WriteFault → Rose (K.faults sink.old) (K.faults sink.new) }
 {
-    let mut lines = LineReader::new(alloc)?;
-    let head = read_head(alloc, &mut lines, source, sink, prompts, options)?;
-    let heap = Heap {
-        words: head.config.words,
-        count: head.threads.items().len(),
-    };
-    let mut session = Session::new(alloc, &head)?;
-    let mut report = ReportText::new(alloc);
-    report.push_line(b"report 1\n")?;
-    let mut is_open = true;
+    let mut live = begin(alloc, options, source, sink, prompts)?;
     for _stop in 0..u64::MAX {
-        let end = stop(alloc, rt, &mut session, is_open, &mut report)?;
-        write_all(sink, report.bytes())?;
-        report.clear();
+        let end = live.answer_stop(alloc, rt, sink)?;
         if let Some(end) = end {
             return Ok(Status::of_end(end));
         }
-        is_open = come_to_round(
-            alloc,
-            heap,
-            options,
-            is_open,
-            &mut lines,
-            &mut session,
-            source,
-            sink,
-            prompts,
-        )?;
-        round(rt, &mut session, &mut report)?;
+        live.come_to_stop(alloc, rt, options, source, sink, prompts)?;
     }
     Err(Refusal::NoMemory)
+}
+
+// A session behind its head.
+#[derive(Drop)]
+struct LiveSession {
+    lines: LineReader,
+    heap: Heap,
+    session: Session,
+    // Whether further lines may come.
+    is_open: bool,
+    // The text that isn't written yet.
+    report: ReportText,
 }
 
 // The numbers of a heap by which lines are judged: the words of a segment, and the mutators.
@@ -105,6 +108,96 @@ fn session<R: Threads + Sync, S: Source, K: Sink, E: Sink>(
 struct Heap {
     words: u32,
     count: usize,
+}
+
+// Reads the head of a session and begins its run. The first stop comes next.
+fn begin<S: Source, K: Sink, E: Sink>(
+    alloc: Global,
+    options: Options,
+    source: &mut S,
+    sink: &mut K,
+    prompts: &mut E,
+) -> Result<LiveSession, Refusal>
+    ensures begun { IfOk result (λ live. IsAtStop options (S.left source.old) (S.left source.new) (K.taken sink.old) (K.taken sink.new) live) }
+    ensures refused { IfErr result (λ refusal. HasGivenUp options (S.left source.old) (S.left source.new) (K.taken sink.old) (K.taken sink.new) refusal) }
+    ensures reads { S.faults source.old ≤ S.faults source.new }
+    ensures writes { K.faults sink.old ≤ K.faults sink.new }
+    ensures read_fault { IsErrOf result Refusal.ReadFault → Rose (S.faults source.old) (S.faults source.new) }
+    ensures write_fault { IsErrOf result Refusal.WriteFault → Rose (K.faults sink.old) (K.faults sink.new) }
+{
+    let mut lines = LineReader::new(alloc)?;
+    let head = read_head(alloc, &mut lines, source, sink, prompts, options)?;
+    let heap = Heap {
+        words: head.config.words,
+        count: head.threads.items().len(),
+    };
+    let session = Session::new(alloc, &head)?;
+    let mut report = ReportText::new(alloc);
+    report.push_line(b"report 1\n")?;
+    Ok(LiveSession {
+        lines,
+        heap,
+        session,
+        is_open: true,
+        report,
+    })
+}
+
+impl LiveSession {
+    // Does a stop, and writes the text since the last one. Returns the end of the run, or `None` if it goes on.
+    fn answer_stop<R: Threads + Sync, K: Sink>(
+        &mut self,
+        alloc: Global,
+        rt: &R,
+        sink: &mut K,
+    ) -> Result<Option<End>, Refusal>
+        requires { IsLiveSession true self.old }
+        ensures answered { IfOk result (λ end. HasAnsweredStop (K.taken sink.old) (K.taken sink.new) self.old self.new end) }
+        ensures refused { IfErr result (λ refusal. HasNotAnsweredStop (K.taken sink.old) (K.taken sink.new) self.old refusal) }
+        ensures writes { K.faults sink.old ≤ K.faults sink.new }
+        ensures read_fault { IsErrOf result Refusal.ReadFault → ⊥ }
+        ensures write_fault { IsErrOf result Refusal.WriteFault → Rose (K.faults sink.old) (K.faults sink.new) }
+    {
+        let end = stop(alloc, rt, &mut self.session, self.is_open, &mut self.report)?;
+        write_all(sink, self.report.bytes())?;
+        self.report.clear();
+        Ok(end)
+    }
+
+    // Reads the lines of an open session up to its next round, and does the round. The next stop follows.
+    fn come_to_stop<R: Threads + Sync, S: Source, K: Sink, E: Sink>(
+        &mut self,
+        alloc: Global,
+        rt: &R,
+        options: Options,
+        source: &mut S,
+        sink: &mut K,
+        prompts: &mut E,
+    ) -> Result<(), Refusal>
+        requires { IsAfterStop self.old }
+        ensures did { OnOk result (HasComeToStop options (S.left source.old) (S.left source.new) (K.taken sink.old) (K.taken sink.new) self.old self.new) }
+        ensures refused { IfErr result (λ refusal. HasNotComeToStop options (S.left source.old) (S.left source.new) (K.taken sink.old) (K.taken sink.new)
+            self.old refusal) }
+        ensures reads { S.faults source.old ≤ S.faults source.new }
+        ensures writes { K.faults sink.old ≤ K.faults sink.new }
+        ensures read_fault { IsErrOf result Refusal.ReadFault → Rose (S.faults source.old) (S.faults source.new) }
+        ensures write_fault { IsErrOf result Refusal.WriteFault → Rose (K.faults sink.old) (K.faults sink.new) }
+    {
+        let is_open = come_to_round(
+            alloc,
+            self.heap,
+            options,
+            self.is_open,
+            &mut self.lines,
+            &mut self.session,
+            source,
+            sink,
+            prompts,
+        )?;
+        self.is_open = is_open;
+        round(rt, &mut self.session, &mut self.report)?;
+        Ok(())
+    }
 }
 
 // Does a stop, and appends its lines: `ready` at the end while the session goes on, or the line of the run's end.
@@ -130,14 +223,14 @@ fn stop<R: Threads + Sync>(
     Ok(end)
 }
 
-// Appends the lines of a stop and of the cycles that ended there. Puts the names in the cycles' rows in order.
+// Appends the lines of a stop and of the cycles that ended there.
 fn push_rows(report: &mut ReportText, rows: StopRows) -> Result<(), RunFault>
     requires once { All HasNamesOnce rows.cycles }
     requires stop { (row : RowSeen) × (rows.stop ≡ Some row) }
     ensures { OnOk result ((row : RowSeen) → rows.stop ≡ Some row → WritesStop row (map report_row rows.cycles) report.old report.new) }
 {
-    let StopRows { stop, mut cycles } = rows;
-    put_rows_in_order(cycles.items_mut());
+    let StopRows { stop, cycles } = rows;
+    let cycles = EndedCycles::of(cycles);
     let Some(row) = stop else { unreachable!() };
     report.observe(Event::Stop { row, cycles })
 }
@@ -184,7 +277,8 @@ fn round<R: Threads + Sync>(
     Ok(())
 }
 
-// Reads the lines of an open session up to its next round. Returns whether the session is still open.
+// Reads the lines of an open session up to `round` or to its end, and adds their commands. A closed one reads none. Returns
+// whether the session is still open.
 fn come_to_round<S: Source, K: Sink, E: Sink>(
     alloc: Global,
     heap: Heap,
@@ -218,39 +312,6 @@ fn come_to_round<S: Source, K: Sink, E: Sink>(
     if !was_open {
         return Ok(false);
     }
-    read_lines(alloc, heap, options, lines, session, source, sink, prompts)
-}
-
-// Reads lines up to `round` or to the session's end, and adds their commands. Returns whether the session is still open.
-fn read_lines<S: Source, K: Sink, E: Sink>(
-    alloc: Global,
-    heap: Heap,
-    options: Options,
-    lines: &mut LineReader,
-    session: &mut Session,
-    source: &mut S,
-    sink: &mut K,
-    prompts: &mut E,
-) -> Result<bool, Refusal>
-    requires reader { IsReader lines.old }
-    requires session { IsSession false session.old }
-    requires is_open { session.old.is_open ≡ true }
-    requires heap { IsHeapOf heap session.old }
-    ensures reader { OnOk result (IsReader lines.new) }
-    ensures session { OnOk result (IsSession false session.new) }
-    ensures is_open { IfOk result (λ is_open. session.new.is_open ≡ is_open) }
-    ensures room { IfOk result (λ is_open. is_open ≡ true → HaveRoomAll session.new) }
-    ensures collector { OnOk result (session.new.collector ≡ session.old.collector) }
-    ensures heap { OnOk result (IsHeapOf heap session.new) }
-    ensures read { IfOk result (λ is_open. HasReadUpTo options (S.left source.old) (S.left source.new) (K.taken sink.old) (K.taken sink.new)
-        lines.old lines.new session.old session.new is_open) }
-    ensures refused { IfErr result (λ refusal. HasReadLines options (S.left source.old) (S.left source.new) (K.taken sink.old) (K.taken sink.new)
-        lines.old session.old refusal) }
-    ensures reads { S.faults source.old ≤ S.faults source.new }
-    ensures writes { K.faults sink.old ≤ K.faults sink.new }
-    ensures read_fault { IsErrOf result Refusal.ReadFault → Rose (S.faults source.old) (S.faults source.new) }
-    ensures write_fault { IsErrOf result Refusal.WriteFault → Rose (K.faults sink.old) (K.faults sink.new) }
-{
     for _line in 0..u64::MAX {
         prompt(prompts, options);
         let turn = take_line(alloc, heap, options, lines, session, source, sink, prompts)?;

@@ -74,12 +74,13 @@ impl Observer for ReportText {
     ghost fails = { λ before event after. Unit {0} };
 
     fn observe(&mut self, event: Event) -> Result<(), RunFault> {
-        match &event {
+        match event {
             Event::Stop { row, cycles } => {
-                push_stop(&mut self.text, row, cycles.items())?;
+                let cycles = cycles.into_rows();
+                push_stop(&mut self.text, &row, cycles.items())?;
                 self.round = u64::from(row.number) + 1;
             }
-            Event::Round(rows) => push_round(&mut self.text, self.round, rows)?,
+            Event::Round(rows) => push_round(&mut self.text, self.round, &rows)?,
         }
         Ok(())
     }

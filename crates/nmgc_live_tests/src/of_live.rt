@@ -5,6 +5,7 @@ ghost use Rattle.nmgc_script.specs.Spelling.{IsInLimits};
 use nmgc_cli::Status;
 use nmgc_cycle::{Collector, Forgetful};
 use nmgc_io::{MemorySink, MemorySource, write_all};
+use nmgc_journal::End;
 use nmgc_journal::text::{push_end, text};
 use nmgc_limits::MAX_SCRIPT_BYTES;
 use nmgc_live::{Options, ReportWriter, live};
@@ -122,15 +123,49 @@ cycle 1 from 0 closed 0 swept 0 had 0 freed 0 kept 0 dead 0
 end heapfull free 32 reserve 34
 ";
 
+// A session at a terminal, and its text.
+const TERMINAL_LINES: &str = "nmgc 3\nheap 64 64 64 8 16 1\nthread 0\nbegin\nhelp\nround\nrounds\n";
+
+const TERMINAL_ANSWERS: &str = "report 1
+stop 0 idle free 64 filled 0 sweep 0 promoted 0
+ready
+round 1
+0 ok
+stop 1 idle free 64 filled 0 sweep 0 promoted 0
+ready
+bad line 7 thread
+round 2
+0 ok
+stop 2 idle free 64 filled 0 sweep 0 promoted 0
+end done
+";
+
+// The answers of a session with a long comment in its head and another one behind it.
+const LONG_ANSWERS: &str = "bad line 2 line
+report 1
+stop 0 idle free 64 filled 0 sweep 0 promoted 0
+ready
+bad line 7 line
+round 1
+0 ok
+stop 1 idle free 64 filled 0 sweep 0 promoted 0
+ready
+round 2
+0 ok
+stop 2 idle free 64 filled 0 sweep 0 promoted 0
+end done
+";
+
 // A script in whose run a cell is made, let go of and freed.
 const SCRIPT: &str =
     "nmgc 3\nheap 64 64 64 8 16 1\nthread 0\nnum r1 7\ncon r0 3 r1 r1\nyield\nnil r0\nfull\nthread 1\nyield\n";
 
-// A session's status, and the bytes that its sink took.
+// A session's status, and the bytes that its sinks took.
 #[derive(Drop)]
 struct Session {
     status: Status,
     sink: MemorySink,
+    prompts: MemorySink,
 }
 
 // Returns a list of failing calls: the number of this call alone.
@@ -160,15 +195,40 @@ fn session_of<R: Threads + Sync>(
     write: u64,
 ) -> Result<Session, Fail> {
     let bytes = Vec::from_slice(alloc, lines.as_bytes())?;
-    let mut source = MemorySource::new(bytes, 7, listed(alloc, read)?);
-    let mut sink = MemorySink::new(alloc, 4096, listed(alloc, write)?, 2000)?;
-    let mut prompts = MemorySink::new(alloc, 4096, listed(alloc, 0)?, 2000)?;
+    let source = MemorySource::new(bytes, 7, listed(alloc, read)?);
     let options = Options {
         passes_over,
         has_prompts: false,
     };
+    session_from(rt, alloc, source, options, write)
+}
+
+// Does a session of this form over the lines of a source. The write numbered `write` fails.
+fn session_from<R: Threads + Sync>(
+    rt: &R,
+    alloc: Global,
+    source: MemorySource,
+    options: Options,
+    write: u64,
+) -> Result<Session, Fail> {
+    let mut source = source;
+    let mut sink = MemorySink::new(alloc, 4096, listed(alloc, write)?, 2000)?;
+    let mut prompts = MemorySink::new(alloc, 4096, listed(alloc, 0)?, 2000)?;
     let status = live(alloc, rt, options, &mut source, &mut sink, &mut prompts);
-    Ok(Session { status, sink })
+    Ok(Session {
+        status,
+        sink,
+        prompts,
+    })
+}
+
+// Appends a comment of `many` bytes and a line feed.
+fn push_comment(lines: &mut Vec<u8>, many: usize) -> Result<(), AllocError> {
+    for _byte in 0..many {
+        lines.push(b'#')?;
+    }
+    lines.push(b'\n')?;
+    Ok(())
 }
 
 #[test]
@@ -187,6 +247,65 @@ fn bad_lines_are_passed_over(rt: HostRuntime) -> Result<(), Fail> {
     let session = session_of(&rt, rt.alloc(), BAD_LINES, false, 0, 0)?;
     assert!(rt; session.status == Status::BadScript);
     assert!(rt; session.sink.bytes() == b"bad line 1 version\n".as_slice());
+    Ok(())
+}
+
+#[test]
+fn a_person_is_prompted(rt: HostRuntime) -> Result<(), Fail> {
+    let alloc = rt.alloc();
+    let bytes = Vec::from_slice(alloc, TERMINAL_LINES.as_bytes())?;
+    let source = MemorySource::new(bytes, 4096, listed(alloc, 0)?);
+    let options = Options {
+        passes_over: true,
+        has_prompts: true,
+    };
+    let session = session_from(&rt, alloc, source, options, 0)?;
+    assert!(rt; session.status == Status::Done);
+    assert!(rt; session.sink.bytes() == TERMINAL_ANSWERS.as_bytes());
+    let prompts = session.prompts.bytes();
+    assert!(rt; prompts.starts_with(b"> > > > > First the head"));
+    let last = prompts.len().saturating_sub(7);
+    assert!(rt; &prompts[last..] == b"\n> > > ".as_slice());
+    Ok(())
+}
+
+#[test]
+fn a_long_line_is_bad(rt: HostRuntime) -> Result<(), Fail> {
+    let alloc = rt.alloc();
+    let mut bytes = Vec::new(alloc);
+    push_comment(&mut bytes, 65_536)?;
+    push_comment(&mut bytes, 65_537)?;
+    bytes.extend_from_slice(b"nmgc 3\nheap 64 64 64 8 16 1\nthread 0\nbegin\n")?;
+    push_comment(&mut bytes, 65_537)?;
+    bytes.extend_from_slice(b"round\n")?;
+    let source = MemorySource::new(bytes, 4096, listed(alloc, 0)?);
+    let options = Options {
+        passes_over: true,
+        has_prompts: false,
+    };
+    let session = session_from(&rt, alloc, source, options, 0)?;
+    assert!(rt; session.status == Status::Done);
+    assert!(rt; session.sink.bytes() == LONG_ANSWERS.as_bytes());
+    assert!(rt; session.prompts.bytes().is_empty());
+    Ok(())
+}
+
+#[test]
+fn an_input_ends_in_the_head(rt: HostRuntime) -> Result<(), Fail> {
+    for (lines, text) in [
+        ("", "bad line 1 version\n"),
+        ("nmgc 3\n", "bad line 2 heap\n"),
+        ("nmgc 3\nheap 64 64 64 8 16 1\n", "bad line 3 thread\n"),
+        (
+            "nmgc 3\nheap 64 64 64 8 16 1\nthread 0\n",
+            "bad line 4 thread\n",
+        ),
+        ("nmgc 3\nheap", "bad line 2 line\nbad line 3 heap\n"),
+    ] {
+        let session = session_of(&rt, rt.alloc(), lines, true, 0, 0)?;
+        assert!(rt; session.status == Status::BadScript);
+        assert!(rt; session.sink.bytes() == text.as_bytes());
+    }
     Ok(())
 }
 
@@ -239,10 +358,17 @@ fn an_observer_writes_the_report(rt: HostRuntime) -> Result<(), Fail> {
     push_end(&mut last, end)?;
     assert!(rt; last.len() <= whole.len());
     assert!(rt; writer.sink.bytes() == &whole[..whole.len() - last.len()]);
-    let Ok((_, again)) = Collector::run_observed(alloc, &rt, &script, &OpenGate, &mut Forgetful)
+    Ok(())
+}
+
+#[test]
+fn an_observer_forgets(rt: HostRuntime) -> Result<(), Fail> {
+    let alloc = rt.alloc();
+    let script = script_of(alloc, SCRIPT)?;
+    let Ok((_, end)) = Collector::run_observed(alloc, &rt, &script, &OpenGate, &mut Forgetful)
     else {
         return Err("the run was given up".into());
     };
-    assert!(rt; again == end);
+    assert!(rt; end == End::Done);
     Ok(())
 }

@@ -3,6 +3,3 @@ use Rattle.nmgc_live_tests.proofs.of_live.an_observer_writes_the_report.Goals as
 
 pub run_observed-requires-after_bounds : goal.run_observed-requires-after_bounds
 run_observed-requires-after_bounds g c κs = in_limits_fit c.in_ok-script.script c.in_ok-script.ensures
-
-pub run_observed-requires-2-after_bounds : goal.run_observed-requires-2-after_bounds
-run_observed-requires-2-after_bounds g c κs = in_limits_fit c.in_ok-script.script c.in_ok-script.ensures
