@@ -1,7 +1,8 @@
 //! A whole run: a program for each mutator, the collector, and the counts.
 //!
-//! The heap holds the cache twice: its arrays, and for each entry a value and a weak pointer. Easy to get wrong: dead weak pointers
-//! that the index still has are more, and aren't counted.
+//! The heap holds the cache twice: its arrays, and for each entry a value and a weak pointer.
+//!
+//! Easy to get wrong: the index keeps dead weak pointers, too. The sizes of the heap don't count them.
 ghost use Rattle.std.specs.Prelude.{◌≤◌, ◌+◌, IfOk, IfSome};
 ghost use Rattle.nmgc_run_laws.specs.Limits.{most_commands as most_of_run};
 ghost use Rattle.nmgc_decider.specs.Heap.{IsHeap};
@@ -13,7 +14,7 @@ use crate::load::Load;
 use crate::sizes::{SHARDS, Sizes};
 use crate::turns::Turns;
 use nmgc_cycle::{Collector, RunFault};
-use nmgc_decider::figures::Sums;
+use nmgc_decider::figures::{Sums, TimedSums};
 use nmgc_decider::{Decided, MOST_COMMANDS, heap_of};
 use nmgc_journal::End;
 use nmgc_limits::MAX_SEGMENT_WORDS;
@@ -22,19 +23,20 @@ use nmgc_round::Gate;
 use nmgc_script::Config;
 use std::alloc::Global;
 use std::thread::Threads;
+use std::time::Clock;
 
 // The words of a value and its weak pointer, each in a block of its class.
 const ENTRY_WORDS: u64 = 4 + 6;
 
-// The number of sizes of objects: two sizes of arrays, one of values and one of weak pointers. Each mutator has begun a segment
-// for each size.
+// The number of sizes of objects: two sizes of arrays, one of values and one of weak pointers. The heap has a segment of each size
+// for each mutator to fill.
 const SIZES_MADE: u8 = 4;
 
-// The most commands of an operation, on average. A read takes 3, or 11 if its value is made anew; a write takes 9, a scan 24, and
-// an eviction one more.
+// The commands that an operation may take on average. A read takes 3, or 11 if its value is made anew; a write takes 9, a scan 24,
+// and an eviction one more.
 const OPERATION_COMMANDS: u32 = 20;
 
-// The most commands with which a program makes or finds the arrays, and ends.
+// The commands with which a program may make or find the arrays, and end.
 const OTHER_COMMANDS: u32 = 65_536;
 
 /// The task of a run.
@@ -81,7 +83,7 @@ pub struct Finished {
     pub account: Account,
 }
 
-/// The values of a run at its end: the numbers of their weak pointers alive and dead, and of the queued finalisers.
+/// The values at a run's end: the numbers of their weak pointers that are alive and that died, and of the queued finalisers.
 #[derive(Clone, Copy, Debug, PartialEq, Eq)]
 pub struct Account {
     pub alive: u64,
@@ -119,7 +121,8 @@ fn config_of(sizes: Sizes, threads: u8) -> Option<Config>
     )
 }
 
-// Returns the number of operations of a mutator: its equal part of all, and one of the rest if it is among the first.
+// Returns the number of operations of a mutator: an equal part of all, and one more for each of the first mutators if a rest is
+// left.
 fn share(task: Task, mutator: u8) -> u32 {
     let threads = u32::from(task.threads.max(1));
     let more = if u32::from(mutator) < task.operations % threads {
@@ -192,9 +195,9 @@ fn push(
     Ok(more)
 }
 
-/// Runs the operations of all mutators on one heap, and returns the programs at their ends and the collector. Returns
-/// `TooLarge` if the number of mutators isn't from 1 to `MAKERS` too.
-pub fn run<R: Threads + Sync, G: Gate>(
+/// Runs the operations of all mutators on one heap. Returns the programs, the collector, the run's end, the sums over its events
+/// and the account of its values. Returns `TooLarge` too if the number of mutators isn't from 1 to `MAKERS`.
+pub fn run<R: Threads + Clock + Sync, G: Gate>(
     alloc: Global,
     rt: &R,
     task: Task,
@@ -204,21 +207,21 @@ pub fn run<R: Threads + Sync, G: Gate>(
         return Err(CacheFault::TooLarge);
     };
     let mut programs = programs_of(alloc, task)?;
-    let mut sums = Sums::NONE;
+    let mut timed = TimedSums::new(rt);
     let (collector, end) = Collector::run_programs_observed(
         alloc,
         rt,
         &config,
         programs.as_mut_slice(),
         gate,
-        &mut sums,
+        &mut timed,
     )?;
-    let account = account_of(&collector, &sums)?;
+    let account = account_of(&collector, &timed.sums)?;
     Ok(Finished {
         programs,
         collector,
         end,
-        sums,
+        sums: timed.sums,
         account,
     })
 }

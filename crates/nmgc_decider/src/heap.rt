@@ -7,7 +7,7 @@ ghost use Rattle.std.specs.Prelude.{◌≡◌, ◌<◌, ◌≤◌, ◌+◌, ◌*
 ghost use Rattle.nmgc_decider.specs.Heap.{IsHeap};
 
 use nmgc_limits::{
-    MAKERS, MAX_HEAP_WORDS, MAX_SEGMENT_WORDS, MAX_SEGMENTS, MAX_SLICE, MAX_TRIGGER,
+    MAKERS, MAX_HEAP_WORDS, MAX_QUOTA, MAX_SEGMENT_WORDS, MAX_SEGMENTS, MAX_SLICE, MAX_TRIGGER,
 };
 use nmgc_script::Config;
 
@@ -20,8 +20,19 @@ const CLASSES: u64 = 21;
 // The number of segments that the reserve has for each mutator: the nursery's segments twice, and one for each class.
 const RESERVED: u64 = 2 * 16 + CLASSES;
 
-// The number of objects that the collector marks in a round, at most.
+// The number of objects that the collector marks in a round for each mutator, at most. A nursery holds at most half of these.
 const QUOTA: u32 = 65_536;
+
+// Returns the number of objects that the collector marks in a round, at most. With up to 16 mutators it is at least twice the
+// number of objects that they make in a round, so marking ends before the heap is full.
+fn quota_of(threads: u8) -> u32
+    ensures { (1 ≤ result) × (result ≤ MAX_QUOTA) }
+{
+    if threads == 0 {
+        return QUOTA;
+    }
+    (u32::from(threads) * QUOTA).min(MAX_QUOTA)
+}
 
 /// Returns the sizes of a heap with `segments` segments beside its reserve, for `threads` mutators, in which a cycle begins once
 /// `trigger` segments were filled. The reserve has 53 segments for each mutator. Returns `None` only if `segments` is 0,
@@ -34,6 +45,7 @@ pub fn heap_of(segments: u32, trigger: u32, threads: u8) -> Option<Config>
     if threads == 0 || threads > MAKERS {
         return None;
     }
+    let quota = quota_of(threads);
     let threads = u64::from(threads);
     let all = u64::from(segments) + RESERVED * threads;
     if segments == 0 || all > MAX_SEGMENTS as u64 || trigger > MAX_TRIGGER {
@@ -48,7 +60,7 @@ pub fn heap_of(segments: u32, trigger: u32, threads: u8) -> Option<Config>
         words: MAX_SEGMENT_WORDS,
         nursery: NURSERY_WORDS,
         slice: MAX_SLICE,
-        quota: QUOTA,
+        quota,
         trigger,
     })
 }

@@ -1,7 +1,9 @@
 //! A whole run: a program for each mutator, the collector, and the counts.
 //!
 //! The heap holds the live trees twice. These are the second tree and a small tree of the greatest depth for each mutator; the
-//! first tree has one node more than two such trees. Easy to get wrong: registers keep parts of the last small tree besides.
+//! first tree has one node more than two such trees.
+//!
+//! Easy to get wrong: registers keep parts of the last small tree, too.
 ghost use Rattle.std.specs.Prelude.{◌≤◌, ◌+◌, IfOk, IfSome};
 ghost use Rattle.nmgc_run_laws.specs.Limits.{most_commands as most_of_run};
 ghost use Rattle.nmgc_decider.specs.Heap.{IsHeap};
@@ -10,7 +12,7 @@ ghost use Rattle.nmgc_trees.specs.Ready.{AreTrees, IsTrees};
 use crate::plan::{Plan, nodes_of};
 use crate::trees::{DEPTHS, Trees};
 use nmgc_cycle::{Collector, RunFault};
-use nmgc_decider::figures::Sums;
+use nmgc_decider::figures::{Sums, TimedSums};
 use nmgc_decider::{Decided, MOST_COMMANDS, heap_of};
 use nmgc_journal::End;
 use nmgc_limits::MAX_SEGMENT_WORDS;
@@ -19,6 +21,7 @@ use nmgc_round::Gate;
 use nmgc_script::Config;
 use std::alloc::Global;
 use std::thread::Threads;
+use std::time::Clock;
 
 // The words of a node: a header, a name and two fields.
 const NODE_WORDS: u64 = 4;
@@ -82,8 +85,8 @@ pub fn most_commands(depth: u8, threads: u8) -> u64 {
     plan.commands()
 }
 
-// Returns the sizes of a heap that holds the live trees twice, or `None` if it isn't within the limits. Each mutator has begun a
-// segment of nodes besides.
+// Returns the sizes of a heap that holds the live trees twice, or `None` if it isn't within the limits. It also has a segment for
+// each mutator to fill.
 fn config_of(depth: u8, threads: u8) -> Option<Config>
     ensures { IfSome result (IsHeap threads) }
 {
@@ -149,9 +152,9 @@ fn push(
     Ok(more)
 }
 
-/// Runs the trees of all mutators on one heap, and returns the programs at their ends and the collector. Returns
-/// `TooLarge` if `threads` isn't from 1 to `MAKERS` too.
-pub fn run<R: Threads + Sync, G: Gate>(
+/// Runs the trees of all mutators on one heap, and returns the programs, the collector, the run's end and the sums over its
+/// events. Returns `TooLarge` too if `threads` isn't from 1 to `MAKERS`.
+pub fn run<R: Threads + Clock + Sync, G: Gate>(
     alloc: Global,
     rt: &R,
     depth: u8,
@@ -162,20 +165,20 @@ pub fn run<R: Threads + Sync, G: Gate>(
         return Err(TreesFault::TooLarge);
     };
     let mut programs = programs_of(alloc, depth, threads)?;
-    let mut sums = Sums::NONE;
+    let mut timed = TimedSums::new(rt);
     let (collector, end) = Collector::run_programs_observed(
         alloc,
         rt,
         &config,
         programs.as_mut_slice(),
         gate,
-        &mut sums,
+        &mut timed,
     )?;
     Ok(Finished {
         programs,
         collector,
         end,
-        sums,
+        sums: timed.sums,
     })
 }
 

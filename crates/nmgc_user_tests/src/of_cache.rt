@@ -25,7 +25,7 @@ fn is_right(finished: &Finished, totals: &Totals) -> bool {
 }
 
 // Whether a small cache evicts, answers rightly, and does all its operations.
-fn is_small_right<R: Threads + Sync>(
+fn is_small_right<R: Threads + Clock + Sync>(
     alloc: Global,
     rt: &R,
     threads: u8,
@@ -70,7 +70,7 @@ fn too_many_operations_are_refused(rt: HostRuntime) -> Result<(), Fail> {
 }
 
 // Whether there is no run of a task, since it would be too large.
-fn is_too_large<R: Threads + Sync>(alloc: Global, rt: &R, task: Task) -> bool {
+fn is_too_large<R: Threads + Clock + Sync>(alloc: Global, rt: &R, task: Task) -> bool {
     match run(alloc, rt, task, &OpenGate) {
         Err(CacheFault::TooLarge) => true,
         _ => false,

@@ -75,7 +75,7 @@ fn wrong_numbers_of_words_are_refused(rt: HostRuntime) -> Result<(), Fail> {
 }
 
 // Whether there is no run of trees of this depth, since it would be too large.
-fn is_too_large<R: Threads + Sync>(alloc: Global, rt: &R, depth: u8, threads: u8) -> bool {
+fn is_too_large<R: Threads + Clock + Sync>(alloc: Global, rt: &R, depth: u8, threads: u8) -> bool {
     match run(alloc, rt, depth, threads, &OpenGate) {
         Err(TreesFault::TooLarge) => true,
         _ => false,
