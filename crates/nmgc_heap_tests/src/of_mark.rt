@@ -42,7 +42,7 @@ fn is_marked(segments: &Segments, at: u32) -> Option<bool> {
     Some(segments.is_marked(number, block, 1))
 }
 
-// The addresses that wait, in order.
+// The addresses that wait, in order: the last found first.
 fn waiting(marker: &mut Marker) -> [Option<Address>; 3] {
     [
         marker.take_first(),
@@ -67,7 +67,7 @@ fn remembered_places(rt: HostRuntime) -> Result<(), Fail> {
     marker.add(&mut segments, &[Address(36), Address(32), Address(36)]);
     assert!(rt; marker.marked() == 2);
     assert!(rt; !marker.is_empty());
-    assert!(rt; waiting(&mut marker) == [Some(Address(36)), Some(Address(32)), None]);
+    assert!(rt; waiting(&mut marker) == [Some(Address(32)), Some(Address(36)), None]);
     assert!(rt; marker.is_empty());
     for (at, marked) in [
         (32, Some(true)),

@@ -342,7 +342,9 @@ fn check_many<R: Abort + Threads + Sync>(rt: &R, alloc: Global) -> Result<(), Fa
     let mut sweeper = Sweeper::start(alloc, &segments, 2)?;
     let done = sweeper.work(rt, &mut segments, &names, MANY, &OpenGate);
     assert!(rt; done.swept == 257);
-    assert!(rt; done.finished);
+    if !done.finished {
+        return Err("a segment waits".into());
+    }
     // All names follow one another, and a span has at most 65,535 of them; a span of freed names has two.
     assert!(rt; sweeper.had().len() == 5);
     assert!(rt; sweeper.freed().len() == (MANY / 3 + 1) as usize);
