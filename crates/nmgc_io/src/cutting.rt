@@ -8,8 +8,8 @@ ghost use Rattle.std.specs.{List.prefix_len, Simd.Lanes.chunk};
 
 use std::simd::prelude::*;
 
-// The number of bytes that are compared at once.
-const LANES: usize = 16;
+/// The number of bytes that are compared at once.
+pub(crate) const LANES: usize = 16;
 
 // Counts the bytes before the first `byte` in the `LANES` bytes from position `at` on. Returns `LANES` if none is `byte`.
 #[inline(always)]

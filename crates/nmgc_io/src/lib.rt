@@ -11,7 +11,7 @@
 //! - `standard`: a source and a sink over any stream of the standard library, such as standard input and output.
 //! - `transfer`: `read_all` and `write_all`.
 //! - `numbers`: decimal text of numbers, written and read. `cutting`: bytes cut at a separator.
-//! - `tokens`: a text cut into lines, and a line into tokens.
+//! - `tokens`: a text cut into lines, and a line into tokens. `spaces`: the spaces of a short line.
 //!
 //! Every crate that reads or writes scripts, journals or images depends on this crate. This crate needs `nmgc_lists` only for
 //! `NoMemory`.
@@ -24,6 +24,7 @@ pub mod memory_source;
 pub mod numbers;
 pub mod sink;
 pub mod source;
+mod spaces;
 pub mod standard;
 mod tokens;
 pub mod transfer;

@@ -1,12 +1,14 @@
 //! Lines and tokens of a text.
 //!
 //! A text is cut at line feeds, and the last line feed may be missing. A line is cut at single spaces, so two spaces in a row
-//! make an empty token. Sixteen bytes are searched at once, and most lines are shorter. So a line is cut together with the
-//! text after it, if there is any, which fills up the sixteen.
-ghost use Rattle.std.specs.Prelude.{◌≡◌, ◌<◌, ◌∷◌, [], map, length, take, OnOk, IfSome, IfNone};
+//! make an empty token. Most lines have at most sixteen bytes. The spaces of such a line are found by one comparison of
+//! sixteen bytes (`spaces`), if the text after the line fills them up. Every other line is searched anew for each token.
+ghost use Rattle.std.specs.Prelude.{◌≡◌, ◌<◌, ◌∷◌, [], map, length, take, ◌≤◌, OnOk, IfSome, IfNone};
 ghost use Rattle.nmgc_io.specs.Text.{lines_of, tokens_of, is_blank_or_comment};
+ghost use Rattle.nmgc_io.specs.Spaces.{MarksSpaces};
 
-use crate::cutting::{cut, cut_within};
+use crate::cutting::{LANES, cut, cut_within};
+use crate::spaces::{cut_marked, space_marks};
 use nmgc_lists::NoMemory;
 
 /// Splits a text into its first line, without the line feed, and the text after this line. The last line may lack a line
@@ -45,7 +47,26 @@ pub fn cut_tokens<'a>(tokens: &mut Vec<&'a [u8]>, line: &'a [u8]) -> Result<(), 
     cut_tokens_within(tokens, line, line)
 }
 
-/// Does the same as `cut_tokens`. Requires that `text` begins with `line`. Text after a short line saves time (`cut_within`).
+// Does the same as `cut_tokens` for a line of at most `LANES` bytes, whose spaces `spaces` marks.
+#[inline(always)]
+fn cut_short<'a>(tokens: &mut Vec<&'a [u8]>, line: &'a [u8], spaces: u64) -> Result<(), NoMemory>
+    requires short { length line.now ≤ LANES }
+    requires marks { MarksSpaces spaces line.now }
+    ensures { OnOk result (map (λ t. t.now) tokens.new.items ≡ tokens_of line.now) }
+{
+    tokens.clear();
+    let mut rest = line;
+    let mut marks = spaces;
+    while let Some((token, after, marks_after)) = cut_marked(rest, marks) {
+        tokens.push(token)?;
+        rest = after;
+        marks = marks_after;
+    }
+    tokens.push(rest)?;
+    Ok(())
+}
+
+/// Does the same as `cut_tokens`. Requires that `text` begins with `line`. Text after a short line saves time.
 pub fn cut_tokens_within<'a>(
     tokens: &mut Vec<&'a [u8]>,
     line: &'a [u8],
@@ -54,6 +75,9 @@ pub fn cut_tokens_within<'a>(
     requires { line.now ≡ take (length line.now) text.now }
     ensures { OnOk result (map (λ t. t.now) tokens.new.items ≡ tokens_of line.now) }
 {
+    if line.len() <= LANES && text.len() >= LANES {
+        return cut_short(tokens, line, space_marks(text));
+    }
     tokens.clear();
     let mut rest = line;
     let mut from = 0;

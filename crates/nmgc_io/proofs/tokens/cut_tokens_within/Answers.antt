@@ -1,6 +1,6 @@
 use Rattle.std.proofs.{Common.◌≤◌, Common.◌≢◌, Common.length, Common.refl, Common.ap, Common.arith, Common.append_assoc, Common.length-take, lemmas.List.map_push, lemmas.List.Elements.recursion_from_All}
 use Rattle.nmgc_io.specs.{Text.tokens_of, laws.Parts.cut_first, laws.Parts.tokens_cut, laws.Parts.last_token}
-use Rattle.nmgc_io.proofs.Rests.{rest_on, rest_less}
+use Rattle.nmgc_io.proofs.{Rests.rest_on, Rests.rest_less, Marked.marks_of_front}
 use Rattle.nmgc_io.proofs.tokens.cut_tokens_within.Goals as goal
 
 pub loop-token-init : goal.loop-token-init
@@ -30,3 +30,7 @@ pub returns : goal.returns
 returns c =
     let last = last_token c.loop-token.rest.now (recursion_from_All (λ b. b ≢ 32) c.loop-token.rest.now c.in_default.ensures.none) in
     rw (c.in_ok-push-2.ensures.items, map_push (λ t. t.now) c.loop-token.tokens.items c.loop-token.rest) (rw last at c.loop-token.invariant.tokens)
+
+pub cut_short-requires-clause-marks : goal.cut_short-requires-clause-marks
+cut_short-requires-clause-marks c =
+    marks_of_front c.space_marks.result c.args.text.now c.args.line.now 16 c.space_marks.ensures (omega arith) c.requires (omega arith)
