@@ -78,8 +78,8 @@ fn is_section(tokens: &[&[u8]]) -> bool
     ensures { result ≡ is_section (map (λ w. w.now) tokens.now) }
 {
     match tokens {
-        [name, ..] => *name == b"thread".as_slice(),
-        [] => false,
+        [[b't', b'h', b'r', b'e', b'a', b'd'], ..] => true,
+        _ => false,
     }
 }
 

@@ -4,7 +4,7 @@
 //! So an unknown name is reported even if the line has too many tokens. The first letters give a guess of the verb. All verbs
 //! are compared only if the guess is wrong, so only the time of a long script depends on it. Easy to get wrong: a verb that
 //! is missing in `VERBS` could be printed but not read.
-ghost use Rattle.std.specs.Prelude.{◌≡◌};
+ghost use Rattle.std.specs.Prelude.{IfSome, ◌≡◌};
 ghost use Rattle.nmgc_script.specs.{Reading.Gives, Reading.first_named, Reading.named_at, Reading.verb_at, Parts.verb_name};
 
 use crate::version::Version;
@@ -152,8 +152,32 @@ pub fn verb_of(version: Version, name: &[u8]) -> Result<Verb, LineFault>
     Ok(verb)
 }
 
+// Returns the verb that has this name if it is one of the four commonest in a script, and otherwise `None`.
+fn common_verb_of(name: &[u8]) -> Option<Verb>
+    ensures { IfSome result (λ verb. name.now ≡ verb_name verb) }
+{
+    match name {
+        [b'c', b'o', b'n'] => Some(Verb::Con),
+        [b'g', b'e', b't'] => Some(Verb::Get),
+        [b's', b'e', b't'] => Some(Verb::Set),
+        [b's', b'h', b'o', b'w'] => Some(Verb::Show),
+        _ => None,
+    }
+}
+
 // Returns the verb that has this name in any version, or a fault if there is none.
 fn any_verb_of(name: &[u8]) -> Result<Verb, LineFault>
+    ensures { Gives result (named_at name.now) }
+{
+    match common_verb_of(name) {
+        Some(verb) => Ok(verb),
+        None => other_verb_of(name),
+    }
+}
+
+// Does the same as `any_verb_of`, for any name.
+#[inline(never)]
+fn other_verb_of(name: &[u8]) -> Result<Verb, LineFault>
     ensures { Gives result (named_at name.now) }
 {
     let verb = guess_verb(name);

@@ -1,8 +1,5 @@
-use Rattle.nmgc_script.proofs.{Vocabulary.◌≡◌, Vocabulary.◌∙◌, Vocabulary.sym, Vocabulary.ap, Vocabulary.bytes_eq-Decides, Vocabulary.named_at, Vocabulary.verb_name, VerbLaws.named_again}
+use Rattle.nmgc_script.proofs.{Vocabulary.◌≡◌, Vocabulary.◌∙◌, Vocabulary.ap, Vocabulary.named_at, VerbLaws.named_again}
 use Rattle.nmgc_script.proofs.verbs.any_verb_of.Goals as goal
 
-pub returns-then-eq : goal.returns-then-eq
-returns-then-eq c =
-    let is : c.args.name.now ≡ verb_name c.guess_verb-verb.result =
-    (bytes_eq-Decides c.args.name.now c.name.result.now).0 (sym c.eq.ensures ∙ c.if-eq.true) ∙ c.name.ensures in
-    ap named_at is ∙ named_again c.guess_verb-verb.result
+pub returns-in-Some : goal.returns-in-Some
+returns-in-Some c = ap named_at c.in-Some.ensures ∙ named_again c.in-Some.verb
