@@ -226,11 +226,15 @@ fn new_mutators(
     Ok((mutators, Inbox::new(VecList::from_vec(receivers, place))))
 }
 
-// Takes memory for `count` words, and gives it back untouched. This changes only the time of the run. The C library returns a
-// large block to the system when it is freed, and from then on keeps blocks up to that size, at most 32 MiB. So when the list
-// from which the words are copied is freed, its pages, already touched, are used again.
+// The words of the largest block that the C library may keep: 32 MiB without a page for its own fields.
+const KEPT_WORDS: usize = 4_193_792;
+
+// Takes memory for a heap of `count` words, or for `KEPT_WORDS` if the heap has more, and gives it back untouched. This changes
+// only the time of the run. The C library returns a large block to the system when it is freed, and from then on keeps blocks
+// up to that size, at most 32 MiB. So the list from which the words are copied leaves its touched pages to the run. In a larger
+// heap it doesn't, but the lists of a cycle do, and no stop returns their pages.
 fn keep_freed_pages(alloc: Global, count: usize) -> Result<(), NoMemory> {
-    drop(Vec::<u64>::with_capacity(alloc, count)?);
+    drop(Vec::<u64>::with_capacity(alloc, count.min(KEPT_WORDS))?);
     Ok(())
 }
 
