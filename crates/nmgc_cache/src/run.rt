@@ -15,7 +15,7 @@ use crate::sizes::{SHARDS, Sizes};
 use crate::turns::Turns;
 use nmgc_cycle::{Collector, RunFault};
 use nmgc_decider::figures::{Sums, TimedSums};
-use nmgc_decider::{Decided, MOST_COMMANDS, heap_of};
+use nmgc_decider::{Decided, MOST_COMMANDS, heap_of, share};
 use nmgc_journal::End;
 use nmgc_limits::MAX_SEGMENT_WORDS;
 use nmgc_lists::NoMemory;
@@ -121,21 +121,14 @@ fn config_of(sizes: Sizes, threads: u8) -> Option<Config>
     )
 }
 
-// Returns the number of operations of a mutator: an equal part of all, and one more for each of the first mutators if a rest is
-// left.
-fn share(task: Task, mutator: u8) -> u32 {
-    let threads = u32::from(task.threads.max(1));
-    let more = if u32::from(mutator) < task.operations % threads {
-        1
-    } else {
-        0
-    };
-    (task.operations / threads).saturating_add(more)
+// Returns the number of operations of a mutator.
+fn operations_of(task: Task, mutator: u8) -> u32 {
+    share(task.operations, task.threads, mutator)
 }
 
 /// Returns the most commands that a mutator's program gives. Takes no memory.
 pub fn most_commands(task: Task, mutator: u8) -> u32 {
-    share(task, mutator)
+    operations_of(task, mutator)
         .saturating_mul(OPERATION_COMMANDS)
         .saturating_add(OTHER_COMMANDS)
 }
@@ -155,7 +148,13 @@ fn program_of(
         return Err(CacheFault::TooLarge);
     }
     let keys = task.sizes.all_keys();
-    let load = Load::new(task.seed, mutator, task.threads, keys, share(task, mutator));
+    let load = Load::new(
+        task.seed,
+        mutator,
+        task.threads,
+        keys,
+        operations_of(task, mutator),
+    );
     let known = Known::new(alloc, mutator, task.threads, keys)?;
     let cache = Cache::new(task.sizes, mutator, load, known);
     let Some(first) = cache.first() else {

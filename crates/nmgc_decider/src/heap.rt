@@ -24,13 +24,11 @@ const RESERVED: u64 = 2 * 16 + CLASSES;
 const QUOTA: u32 = 65_536;
 
 // Returns the number of objects that the collector marks in a round, at most. With up to 16 mutators it is at least twice the
-// number of objects that they make in a round, so marking ends before the heap is full.
+// number of objects that they can make in a round. No clause promises that marking ends before the heap is full.
 fn quota_of(threads: u8) -> u32
+    requires { 0 < threads }
     ensures { (1 ≤ result) × (result ≤ MAX_QUOTA) }
 {
-    if threads == 0 {
-        return QUOTA;
-    }
     (u32::from(threads) * QUOTA).min(MAX_QUOTA)
 }
 

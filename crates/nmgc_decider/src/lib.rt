@@ -10,6 +10,7 @@
 //! - `heap`: the sizes of a heap with a given number of segments.
 //! - `progress`: a gate that prints a line on the way.
 //! - `random`: a stream of numbers that a seed determines.
+//! - `shares`: a mutator's part of a count.
 //!
 //! Easy to get wrong: a decider counts no commands itself. At its last command `Decided` ends, even if the decider would go on.
 #![tactic(auto)]
@@ -21,6 +22,7 @@ pub mod heap;
 pub mod objects;
 pub mod progress;
 pub mod random;
+pub mod shares;
 
 pub use decider::{Decided, Decider};
 pub use frames::Frame;
@@ -29,3 +31,4 @@ pub use nmgc_cycle::MOST_COMMANDS;
 pub use objects::{Obj, Shape};
 pub use progress::Progress;
 pub use random::Random;
+pub use shares::share;

@@ -4,7 +4,7 @@ ghost use Rattle.nmgc_limits.specs.Limits.{most_segment_words};
 use crate::lists::{CELLS, Lists, right_sum};
 use crate::table::Table;
 use nmgc_commands::PackedCommand;
-use nmgc_decider::Decider;
+use nmgc_decider::{Decider, share};
 use nmgc_world_spec::Reply;
 
 /// The two loads.
@@ -45,16 +45,9 @@ pub struct Counts {
 }
 
 impl Task {
-    /// Returns the places or operations of a mutator: an equal part of all, and one more for each of the first mutators if a rest
-    /// is left.
+    /// Returns the number of places or operations of a mutator.
     pub fn share(&self, mutator: u8) -> u32 {
-        let threads = u32::from(self.threads.max(1));
-        let more = if u32::from(mutator) < self.count % threads {
-            1
-        } else {
-            0
-        };
-        (self.count / threads).saturating_add(more)
+        share(self.count, self.threads, mutator)
     }
 
     /// Returns the load of a mutator.
