@@ -8,7 +8,7 @@ use Rattle.nmgc_io.specs.declared.ends.ReadEnd.{ReadEnd}
 use Rattle.nmgc_io.specs.declared.ends.ReadEnd.TheVariants as read
 use Rattle.nmgc_script.specs.{Parts.end_of, Spelling.IsFaultOfText, Spelling.Spells, Spelling.kept_lines, declared.fault.Cause.Cause, declared.script.Script.Script}
 use Rattle.nmgc_script.specs.declared.fault.Cause.TheVariants as cause
-use Rattle.nmgc_live.specs.{Heads.HasBadLine, Heads.HasBadLineWithin, Heads.HasNoCommands, Heads.IsBadInHead, Heads.IsEndRefusal, Heads.IsHead, Heads.IsHeadLine, Heads.IsHeadSoFar, Heads.IsNextHeadLine, Heads.IsNoHeadLine, Heads.SpellsOther, Heads.kept_if, Heads.with_line, Lines.IsNextLine, Lines.ReadsEnd, Lines.ReadsLine, Lines.fed, Lines.next_number, Refusals.read_refusal, declared.head.HeadLine.HeadLine, declared.head.TheConstants.MAX_HEAD_BYTES, declared.lines.LineReader.LineReader, declared.refusal.Refusal.Refusal}
+use Rattle.nmgc_live.specs.{Heads.HasBadLine, Heads.HasBadLineWithin, Heads.HasNoCommands, Heads.IsBadInHead, Heads.IsEndRefusal, Heads.IsHead, Heads.IsHeadLine, Heads.IsHeadSoFar, Heads.IsNextHeadLine, Heads.IsNoHeadLine, Heads.SpellsOther, Heads.kept_if, Heads.with_line, Lines.IsNextLine, Lines.ReadsEnd, Lines.ReadsLine, Lines.ReadsShort, Lines.fed, Lines.next_number, Refusals.read_refusal, declared.head.HeadLine.HeadLine, declared.head.TheConstants.MAX_HEAD_BYTES, declared.lines.LineReader.LineReader, declared.refusal.Refusal.Refusal}
 use Rattle.nmgc_live.specs.declared.head.HeadLine.TheVariants as head
 use Rattle.nmgc_live.specs.declared.refusal.Fault.TheVariants as fault
 use Rattle.nmgc_live.specs.declared.refusal.Refusal.TheVariants as no
@@ -142,7 +142,7 @@ end_of_head old new before now text no.WriteFault q number h = elim h [ ]
 
 -- a line of the head that was read and judged
 pub head_line_read : (before now : LineReader) (left_old left_new : Option (List ℕ)) (old new : List ℕ) (judged : HeadLine) →
-    ReadsLine before now left_old left_new now.line.items → IsHeadLine old new now.line.items judged → IsNextHeadLine before now left_old left_new old new judged
+    ReadsShort before now left_old left_new now.line.items → IsHeadLine old new now.line.items judged → IsNextHeadLine before now left_old left_new old new judged
 head_line_read before now left_old left_new old new head.More q h = (now.line.items, q, h.0, h.1)
-head_line_read before now left_old left_new old new (head.Begun script) q h = (subst (ReadsLine before now left_old left_new) h.1 q, h.2)
-head_line_read before now left_old left_new old new (head.Bad f) q h = (h.0, inl (now.line.items, q, h.1))
+head_line_read before now left_old left_new old new (head.Begun script) q h = (subst (ReadsLine before now left_old left_new) h.1 q.0, h.2)
+head_line_read before now left_old left_new old new (head.Bad f) q h = (h.0, inl (now.line.items, q.0, h.1))

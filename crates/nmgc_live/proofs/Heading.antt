@@ -5,7 +5,7 @@ use Rattle.std.specs.Io.KnownBytes.{Appends, Consumes}
 use Rattle.nmgc_script.specs.declared.{script.Script.Script}
 use Rattle.nmgc_lists.specs.laws.Items.{item}
 use Rattle.nmgc_cycle.specs.{declared.command_queue.CommandQueue.CommandQueue, declared.observer.Event.Event, declared.session.Session.Session, Observed.AreEventsOf, Sessions.BeginsSession, laws.Sessions.mapped_at}
-use Rattle.nmgc_live.specs.{Heads.IsBadInHead, Heads.IsEndCause, Heads.IsGoodInHead, Heads.IsHead, Heads.IsNoHeadLine, Heads.with_line, Lines.ReadsCut, Lines.ReadsLine, Lines.ReadsNoLine, Lines.fed, Lines.next_number, Lines.unread, Live.HasGivenUp, Live.IsAtBad, Live.IsRefused, Played.IsBadLine, Refusals.bad_line, Steps.HasReadHead, Steps.IsHeading, Steps.IsStopping, Transcripts.Transcript, Transcripts.Bad, Transcripts.Begin, Transcripts.CutOff, Transcripts.Head, Transcripts.Start, Transcripts.bytes_of, Transcripts.number_of, Transcripts.text_of, declared.lines.LineReader.LineReader, declared.options.Options.Options, declared.refusal.Fault.Fault, declared.refusal.Refusal.Refusal, declared.writer.ReportText.ReportText}
+use Rattle.nmgc_live.specs.{Heads.IsBadInHead, Heads.IsEndCause, Heads.IsGoodInHead, Heads.IsHead, Heads.IsNoHeadLine, Heads.with_line, Lines.ReadsCut, Lines.ReadsLine, Lines.ReadsShort, Lines.ReadsNoLine, Lines.fed, Lines.next_number, Lines.unread, Live.HasGivenUp, Live.IsAtBad, Live.IsRefused, Played.IsBadLine, Refusals.bad_line, Steps.HasReadHead, Steps.IsHeading, Steps.IsStopping, Transcripts.Transcript, Transcripts.Bad, Transcripts.Begin, Transcripts.CutOff, Transcripts.Head, Transcripts.Start, Transcripts.bytes_of, Transcripts.number_of, Transcripts.text_of, declared.lines.LineReader.LineReader, declared.options.Options.Options, declared.refusal.Fault.Fault, declared.refusal.Refusal.Refusal, declared.writer.ReportText.ReportText}
 use Rattle.nmgc_live.specs.declared.refusal.Fault.TheVariants as fault
 use Rattle.nmgc_live.specs.declared.refusal.Refusal.TheVariants as no
 use Rattle.nmgc_live.proofs.{Answering.appends_none, LineParts.consumes_none, Lining.appends_on, Lining.read_line, Lining.read_more, Lining.read_next, Lining.with_none, Played.not_ended, Played.takes_whole}
@@ -68,9 +68,9 @@ module _ (o : Options) (before a b taken w : Option (List ℕ)) (text : List ℕ
     number : x.number ≡ next_number (number_of t)
     number = n ∙ ap next_number h.read.number
 
-    pub heading_on : (line : List ℕ) → ReadsLine r x a b line → IsGoodInHead text line → IsHeading o before b taken w (with_line text line) x (Head t line)
+    pub heading_on : (line : List ℕ) → ReadsShort r x a b line → IsGoodInHead text line → IsHeading o before b taken w (with_line text line) x (Head t line)
     heading_on line q good = record {
-      played = λ head. (h.played head, h.in_head, q.3, subst (λ (l : List ℕ). IsGoodInHead l line) (sym h.text_is) good);
+      played = λ head. (h.played head, h.in_head, (q.0.3, q.1), subst (λ (l : List ℕ). IsGoodInHead l line) (sym h.text_is) good);
       in_head = refl;
       text_is = ap (λ (l : List ℕ). with_line l line) h.text_is;
       is_open_is = h.is_open_is;
@@ -78,7 +78,7 @@ module _ (o : Options) (before a b taken w : Option (List ℕ)) (text : List ℕ
       no_events = h.no_events;
       first = h.first;
       read = record {
-        read = read_line before a b r x (bytes_of t) h.read.read line q;
+        read = read_line before a b r x (bytes_of t) h.read.read line q.0;
         number = number;
         closed = not_ended t b h.is_open_is;
         cuts = h.read.cuts;

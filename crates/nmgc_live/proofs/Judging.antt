@@ -8,7 +8,7 @@ use Rattle.nmgc_io.specs.declared.ends.ReadEnd.{ReadEnd}
 use Rattle.nmgc_io.specs.declared.ends.ReadEnd.TheVariants as read
 use Rattle.nmgc_script.specs.declared.fault.Cause.TheVariants as cause
 use Rattle.nmgc_cycle.specs.{declared.command_queue.CommandQueue.CommandQueue, declared.session.Session.Session, Sessions.HasRoom, Sessions.HaveRoom}
-use Rattle.nmgc_live.specs.{Lines.IsNextLine, Lines.ReadsLine, Meanings.HasToGive, Meanings.IsBad, Meanings.IsFor, Meanings.IsFullIn, Meanings.IsJudged, Meanings.IsNextJudged, Meanings.IsNoLine, Meanings.IsRoundJudged, Meanings.IsWordFault, Refusals.read_refusal, declared.lines.LineReader.LineReader, declared.options.Options.Options, declared.refusal.Fault.Fault, declared.session.Heap.Heap, declared.session.Judged.Judged}
+use Rattle.nmgc_live.specs.{Lines.IsNextLine, Lines.ReadsLine, Lines.ReadsShort, Meanings.HasToGive, Meanings.IsBad, Meanings.IsFor, Meanings.IsFullIn, Meanings.IsJudged, Meanings.IsNextJudged, Meanings.IsNoLine, Meanings.IsRoundJudged, Meanings.IsWordFault, Refusals.read_refusal, declared.lines.LineReader.LineReader, declared.options.Options.Options, declared.refusal.Fault.Fault, declared.session.LineLimits.LineLimits, declared.session.Judged.Judged}
 use Rattle.nmgc_live.specs.declared.refusal.Fault.TheVariants as fault
 use Rattle.nmgc_live.specs.declared.session.Judged.TheVariants as judged
 
@@ -86,12 +86,12 @@ no_line old new before now read.TooLong q = q
 no_line old new before now read.NoMemory q = q
 
 -- a line that was read and judged
-pub line_read : (o : Options) (heap : Heap) (before now : LineReader) (left_old left_new : Option (List ℕ)) (old new : Session) (j : Judged) →
-    ReadsLine before now left_old left_new now.line.items → IsJudged heap.words heap.count o.has_prompts old new now.line.items j →
+pub line_read : (o : Options) (heap : LineLimits) (before now : LineReader) (left_old left_new : Option (List ℕ)) (old new : Session) (j : Judged) →
+    ReadsShort before now left_old left_new now.line.items → IsJudged heap.words heap.count o.has_prompts old new now.line.items j →
     IsNextJudged o heap before now left_old left_new old new j
 line_read o heap before now left_old left_new old new judged.Quiet q h = (h.0, (now.line.items, q, h.1))
 line_read o heap before now left_old left_new old new judged.Added q h = (now.line.items, q, h)
-line_read o heap before now left_old left_new old new judged.Round q h = (h.0, subst (ReadsLine before now left_old left_new) h.1 q, h.2)
-line_read o heap before now left_old left_new old new judged.End q h = (h.0, inl (subst (ReadsLine before now left_old left_new) h.1 q))
-line_read o heap before now left_old left_new old new judged.Help q h = (h.0, subst (ReadsLine before now left_old left_new) h.1 q, h.2)
-line_read o heap before now left_old left_new old new (judged.Bad f) q h = (h.0, inl (now.line.items, q, h.1))
+line_read o heap before now left_old left_new old new judged.Round q h = (h.0, subst (ReadsLine before now left_old left_new) h.1 q.0, h.2)
+line_read o heap before now left_old left_new old new judged.End q h = (h.0, inl (subst (ReadsLine before now left_old left_new) h.1 q.0))
+line_read o heap before now left_old left_new old new judged.Help q h = (h.0, subst (ReadsLine before now left_old left_new) h.1 q.0, h.2)
+line_read o heap before now left_old left_new old new (judged.Bad f) q h = (h.0, inl (now.line.items, q.0, h.1))

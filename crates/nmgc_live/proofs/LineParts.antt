@@ -5,7 +5,7 @@ use Rattle.std.specs.Io.KnownBytes.{Consumes, Keeps, IsAtEnd}
 use Rattle.std.proofs.lemmas.List.{drop-drop, drop_at, nil_from_length}
 use Rattle.nmgc_io.specs.declared.ends.ReadEnd.{ReadEnd}
 use Rattle.nmgc_io.specs.declared.ends.ReadEnd.TheVariants.{NoMemory, ReadFault}
-use Rattle.nmgc_live.specs.Lines.{HasNoLineFeed, HoldsPart, IsNextLine, ReadsCut, end_of, unread, whole_of}
+use Rattle.nmgc_live.specs.Lines.{HasNoLineFeed, HoldsPart, IsNextLine, ReadsCut, ended_as, unread, whole_of}
 use Rattle.nmgc_live.specs.declared.lines.{LineReader.LineReader, TheConstants.MAX_LINE_BYTES}
 
 -- the bytes behind a part and its line feed
@@ -47,7 +47,7 @@ module _ (old new : LineReader) (before now : Option (List ℕ)) (taken part : L
 
   -- the end of the source, behind a part of a line or behind a line
   pub line_at_end : unread old ++ taken ≡ part → HasNoLineFeed part → HoldsPart new.is_long new.line.items part → unread new ≡ [] → IsAtEnd now →
-      IsNextLine old new before now (Ok (end_of new.is_long new.line.items))
+      IsNextLine old new before now (Ok (ended_as new.is_long new.line.items))
   line_at_end u n h none end = by_length new.is_long new.line.items refl refl
     where
       cut : (unread old ++ taken ≢ []) → ReadsCut old new before now
@@ -56,7 +56,7 @@ module _ (old new : LineReader) (before now : Option (List ℕ)) (taken part : L
       none_in : unread old ++ taken ≡ [] → length part ≡ 0
       none_in e = ap (λ (l : List ℕ). length l) (sym u ∙ e)
 
-      by_length : (b : Bool) (line : List ℕ) → new.is_long ≡ b → new.line.items ≡ line → IsNextLine old new before now (Ok (end_of b line))
+      by_length : (b : Bool) (line : List ℕ) → new.is_long ≡ b → new.line.items ≡ line → IsNextLine old new before now (Ok (ended_as b line))
       by_length true line e f = cut (λ empty. (let long = h.long e in let zero_long = none_in empty in absurd (omega (arith, long, zero_long))))
       by_length false (b ∷ line) e f =
           let same : length part ≡ length (b ∷ line) = ap (λ (l : List ℕ). length l) (sym (h.kept e) ∙ f) in

@@ -9,7 +9,7 @@ use Rattle.nmgc_io.specs.Text.{AppendsFront, is_blank_or_comment}
 use Rattle.nmgc_script.specs.declared.script.Script.{Script}
 use Rattle.nmgc_run_spec.specs.AfterRound.{program_of}
 use Rattle.nmgc_cycle.specs.{declared.command_queue.CommandQueue.CommandQueue, declared.collector.Collector.Collector, declared.session.Session.Session, Observed.AreEventsOf, Sessions.HasPushedTo, Sessions.IsSession, Sessions.accepted_in}
-use Rattle.nmgc_live.specs.{Lines.ReadsCut, Lines.ReadsLine, Lines.ReadsNoLine, Lines.fed, Lines.next_number, Lines.unread, Live.HasRead, Live.IsRefused, Live.IsSound, Meanings.IsFullIn, Meanings.IsGiven, Played.IsBadLine, Played.IsFullFor, Refusals.bad_line, Steps.IsReadTo, Steps.IsReading, Steps.IsRounding, Transcripts.Transcript, Transcripts.Bad, Transcripts.Close, Transcripts.CutOff, Transcripts.Given, Transcripts.Quiet, Transcripts.Round, Transcripts.bytes_of, Transcripts.events_of, Transcripts.given_to, Transcripts.is_open, Transcripts.number_of, Transcripts.text_of, declared.lines.LineReader.LineReader, declared.options.Options.Options, declared.refusal.Fault.Fault}
+use Rattle.nmgc_live.specs.{Lines.ReadsCut, Lines.ReadsLine, Lines.ReadsShort, Lines.ReadsNoLine, Lines.fed, Lines.next_number, Lines.unread, Live.HasRead, Live.IsRefused, Live.IsSound, Meanings.IsFullIn, Meanings.IsGiven, Played.IsBadLine, Played.IsFullFor, Refusals.bad_line, Steps.IsReadTo, Steps.IsReading, Steps.IsRounding, Transcripts.Transcript, Transcripts.Bad, Transcripts.Close, Transcripts.CutOff, Transcripts.Given, Transcripts.Quiet, Transcripts.Round, Transcripts.bytes_of, Transcripts.events_of, Transcripts.given_to, Transcripts.is_open, Transcripts.number_of, Transcripts.text_of, declared.lines.LineReader.LineReader, declared.options.Options.Options, declared.refusal.Fault.Fault}
 use Rattle.nmgc_live.specs.declared.refusal.Fault.TheVariants as fault
 use Rattle.nmgc_live.specs.declared.refusal.Refusal.TheVariants as no
 use Rattle.nmgc_live.proofs.{LineParts.consumes_on, Played.not_ended, Played.takes_open, Runs.carries_same, Runs.has_run, Runs.pushed_to}
@@ -91,14 +91,14 @@ module _ (o : Options) (before a b taken w : Option (List ℕ)) (head : Script) 
     number = n ∙ ap next_number h.read.number
 
     -- a line that is no command
-    pub goes_quiet : (line : List ℕ) → ReadsLine r x a b line → (is_blank_or_comment line ≡ true) ⊎ ((line ≡ codes "help") × (o.has_prompts ≡ true)) →
+    pub goes_quiet : (line : List ℕ) → ReadsShort r x a b line → (is_blank_or_comment line ≡ true) ⊎ ((line ≡ codes "help") × (o.has_prompts ≡ true)) →
         IsReading o before b taken w head (Quiet t line) x s
     goes_quiet line q m = record {
-      played = (h.played, h.reading, q.3, m);
+      played = (h.played, h.reading, (q.0.3, q.1), m);
       reading = refl;
       carries = carries_same false head t (Quiet t line) s refl (λ k. refl) refl h.carries;
       read = record {
-        read = read_line before a b r x (bytes_of t) h.read.read line q;
+        read = read_line before a b r x (bytes_of t) h.read.read line q.0;
         number = number;
         closed = not_ended t b open_is;
         cuts = h.read.cuts;
@@ -107,11 +107,11 @@ module _ (o : Options) (before a b taken w : Option (List ℕ)) (head : Script) 
     }
 
     -- a command for a mutator
-    pub goes_on : (line : List ℕ) (m : ℕ) (c : Command) (v : Session) → ReadsLine r x a b line →
+    pub goes_on : (line : List ℕ) (m : ℕ) (c : Command) (v : Session) → ReadsShort r x a b line →
         IsGiven head.config.words (length head.threads) line m c → HasPushedTo m c s v → IsSession false v →
         IsReading o before b taken w head (Given t line m c) x v
     goes_on line m c v q g p is = record {
-      played = (h.played, h.reading, q.3, g);
+      played = (h.played, h.reading, (q.0.3, q.1), g);
       reading = refl;
       carries = record {
         is = is;
@@ -122,7 +122,7 @@ module _ (o : Options) (before a b taken w : Option (List ℕ)) (head : Script) 
         events = subst (λ (y : Collector). AreEventsOf y false (events_of t)) (ap (λ (y : Session). y.collector) (sym p.rest)) h.carries.events;
       };
       read = record {
-        read = read_line before a b r x (bytes_of t) h.read.read line q;
+        read = read_line before a b r x (bytes_of t) h.read.read line q.0;
         number = number;
         closed = not_ended t b open_is;
         cuts = h.read.cuts;

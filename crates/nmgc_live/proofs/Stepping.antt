@@ -10,7 +10,7 @@ use Rattle.nmgc_run_spec.specs.Lawful.{IsRunOf}
 use Rattle.nmgc_cycle.specs.{declared.command_queue.CommandQueue.CommandQueue, declared.session.Session.Session, declared.stop.StopEnd.StopEnd, Keeps.HasAnswered, Keeps.HasEnded, Observed.HandsOn, Sessions.HasSameLines, Sessions.accepted_in, Sessions.script_in, Shown.report_of, Shown.report_row, Stopping.ended_by, laws.Events.round_events, laws.Events.stop_events}
 use Rattle.nmgc_cycle.specs.declared.observer.Event.TheVariants as event
 use Rattle.nmgc_cycle.specs.declared.stop.StopEnd.TheVariants as answer
-use Rattle.nmgc_live.specs.{Meanings.IsNextJudged, Steps.AnswersEnd, Steps.DidRound, Steps.DidStop, Steps.HasComeToRound, Steps.IsAnswered, Steps.IsHeapOf, Steps.IsReading, Steps.IsRounding, Steps.WritesStop, Steps.tail_of, Transcripts.Transcript, Written.WritesEvent, declared.lines.LineReader.LineReader, declared.options.Options.Options, declared.session.Heap.Heap, declared.session.Judged.Judged, declared.writer.ReportText.ReportText}
+use Rattle.nmgc_live.specs.{Meanings.IsNextJudged, Steps.AnswersEnd, Steps.DidRound, Steps.DidStop, Steps.HasComeToRound, Steps.IsAnswered, Steps.IsHeapOf, Steps.IsReading, Steps.IsRounding, Steps.WritesStop, Steps.tail_of, Transcripts.Transcript, Written.WritesEvent, declared.lines.LineReader.LineReader, declared.options.Options.Options, declared.session.LineLimits.LineLimits, declared.session.Judged.Judged, declared.writer.ReportText.ReportText}
 use Rattle.nmgc_live.specs.declared.session.Judged.TheVariants as judged
 
 -- the end of the run that a stop's answer means
@@ -78,11 +78,11 @@ same_count s v accepted = sym (length-map v.queues.items (λ (q : CommandQueue).
     ∙ length-map s.queues.items (λ (q : CommandQueue). q.accepted)
 
 -- a stop and a round keep the numbers of the heap
-pub stopped_heap : (heap : Heap) (s v : Session) → v ≡ record s { collector = v.collector } → IsHeapOf heap s → IsHeapOf heap v
+pub stopped_heap : (heap : LineLimits) (s v : Session) → v ≡ record s { collector = v.collector } → IsHeapOf heap s → IsHeapOf heap v
 stopped_heap heap s v rest h =
     (h.0 ∙ sym (ap (λ (y : Session). y.config.words) rest), h.1 ∙ sym (ap (λ (y : Session). length y.queues.items) rest))
 
-pub same_heap : (heap : Heap) (s v : Session) → HasSameLines s v → IsHeapOf heap s → IsHeapOf heap v
+pub same_heap : (heap : LineLimits) (s v : Session) → HasSameLines s v → IsHeapOf heap s → IsHeapOf heap v
 same_heap heap s v same h = (h.0 ∙ sym (ap (λ (c : Config). c.words) same.config), h.1 ∙ sym (same_count s v same.accepted))
 
 -- the parts of a session that a line of commands doesn't change
@@ -94,7 +94,7 @@ same_run s y e =
     (ap (λ (z : Session). z.collector) e, ap (λ (z : Session). z.is_open) e, ap (λ (z : Session). z.config) e, ap (λ (z : Session). length z.queues.items) e)
 
 -- a line that was read and judged changes queues alone
-pub judged_keeps : (o : Options) (heap : Heap) (r x : LineReader) (a b : Option (List ℕ)) (s y : Session) (j : Judged) → IsNextJudged o heap r x a b s y j →
+pub judged_keeps : (o : Options) (heap : LineLimits) (r x : LineReader) (a b : Option (List ℕ)) (s y : Session) (j : Judged) → IsNextJudged o heap r x a b s y j →
     KeepsRun s y
 judged_keeps o heap r x a b s y judged.Quiet q = same_run s y q.0
 judged_keeps o heap r x a b s y judged.Added q =
@@ -109,7 +109,7 @@ judged_keeps o heap r x a b s y judged.End q = same_run s y q.0
 judged_keeps o heap r x a b s y judged.Help q = same_run s y q.0
 judged_keeps o heap r x a b s y (judged.Bad f) q = same_run s y q.0
 
-pub kept_heap : (heap : Heap) (s y : Session) → KeepsRun s y → IsHeapOf heap s → IsHeapOf heap y
+pub kept_heap : (heap : LineLimits) (s y : Session) → KeepsRun s y → IsHeapOf heap s → IsHeapOf heap y
 kept_heap heap s y k h = (h.0 ∙ ap (λ (c : Config). c.words) (sym k.2), h.1 ∙ sym k.3)
 
 -- a session that was closed keeps its run

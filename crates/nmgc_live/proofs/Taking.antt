@@ -1,10 +1,10 @@
 -- A line of a session that was read, judged and answered: how the session's transcript goes on, and how it is given up there.
-use Rattle.std.proofs.Common.{ℕ, ◌≡◌, ◌⊎◌, ◌++◌, List, [], length, refl, sym, ap, subst, ◌∙◌, inl, inr, Option, None, Some}
+use Rattle.std.proofs.Common.{ℕ, ◌≡◌, ◌⊎◌, ◌++◌, List, [], length, arith, refl, sym, ap, subst, ◌∙◌, inl, inr, Option, None, Some}
 use Rattle.std.specs.Prelude.{true, false, codes}
 use Rattle.std.specs.Io.KnownBytes.{Appends, Consumes, Keeps}
 use Rattle.nmgc_script.specs.declared.{script.Config.Config, script.Script.Script}
 use Rattle.nmgc_cycle.specs.{declared.session.Session.Session, Sessions.IsSession, Sessions.accepted_in}
-use Rattle.nmgc_live.specs.{Heads.IsBadInHead, Heads.IsNextHeadLine, Heads.IsNoHeadLine, Lines.ReadsCut, Lines.ReadsEnd, Lines.ReadsLine, Lines.fed, Lines.next_number, Lines.unread, Live.HasGivenUp, Live.IsAtBad, Live.IsRefused, Live.IsSound, Meanings.IsBad, Meanings.IsFullIn, Meanings.IsGiven, Meanings.IsNextJudged, Meanings.IsNoLine, Played.IsBadLine, Played.IsFullFor, Refusals.GivesUp, Refusals.bad_line, Steps.HasNotTakenHeadLine, Steps.HasReadLines, Steps.HasTakenHeadLine, Steps.HasTakenLine, Steps.IsHeading, Steps.IsHeapOf, Steps.IsReading, Transcripts.Transcript, Transcripts.Bad, Transcripts.Close, Transcripts.CutOff, Transcripts.Given, Transcripts.Head, Transcripts.Quiet, Transcripts.Round, Transcripts.TakesLine, Transcripts.bytes_of, Transcripts.number_of, Transcripts.round_of, Transcripts.text_of, declared.lines.LineReader.LineReader, declared.options.Options.Options, declared.refusal.Fault.Fault, declared.refusal.Refusal.Refusal, declared.session.Heap.Heap, Steps.IsRounding}
+use Rattle.nmgc_live.specs.{Heads.IsBadInHead, Heads.IsNextHeadLine, Heads.IsNoHeadLine, Lines.ReadsCut, Lines.ReadsEnd, Lines.ReadsLine, Lines.fed, Lines.next_number, Lines.unread, Live.HasGivenUp, Live.IsAtBad, Live.IsRefused, Live.IsSound, Meanings.IsBad, Meanings.IsFullIn, Meanings.IsGiven, Meanings.IsNextJudged, Meanings.IsNoLine, Played.IsBadLine, Played.IsFullFor, Refusals.GivesUp, Refusals.bad_line, Steps.HasNotTakenHeadLine, Steps.HasNotReadLines, Steps.HasTakenHeadLine, Steps.HasTakenLine, Steps.IsHeading, Steps.IsHeapOf, Steps.IsReading, Transcripts.Transcript, Transcripts.Bad, Transcripts.Close, Transcripts.CutOff, Transcripts.Given, Transcripts.Head, Transcripts.Quiet, Transcripts.Round, Transcripts.TakesLine, Transcripts.bytes_of, Transcripts.number_of, Transcripts.round_of, Transcripts.text_of, declared.lines.LineReader.LineReader, declared.options.Options.Options, declared.refusal.Fault.Fault, declared.refusal.Refusal.Refusal, declared.session.LineLimits.LineLimits, Steps.IsRounding}
 use Rattle.nmgc_live.specs.declared.refusal.Fault.TheVariants as fault
 use Rattle.nmgc_live.specs.declared.refusal.Refusal.TheVariants as no
 use Rattle.nmgc_live.specs.declared.session.Judged.TheVariants as judged
@@ -33,7 +33,7 @@ refused_bad o before b taken w v head t n f no.WriteFault said number takes at q
 line_took : (a b : Option (List ℕ)) (r x : LineReader) (line : List ℕ) → ReadsLine r x a b line → (taken : List ℕ) × Consumes a b taken
 line_took a b r x line q = (q.0, q.1)
 
-module _ (o : Options) (heap : Heap) (a b w : Option (List ℕ)) (r x : LineReader) (s y : Session) (n : x.number ≡ next_number r.number) (numbers : IsHeapOf heap s) where
+module _ (o : Options) (heap : LineLimits) (a b w : Option (List ℕ)) (r x : LineReader) (s y : Session) (n : x.number ≡ next_number r.number) (numbers : IsHeapOf heap s) where
   -- the session didn't change
   same : (lb tb : Option (List ℕ)) (head : Script) (t : Transcript) → y ≡ s → IsReading o lb a tb w head t r s → IsReading o lb a tb w head t r y
   same lb tb head t e h = subst (λ (z : Session). IsReading o lb a tb w head t r z) (sym e) h
@@ -51,7 +51,7 @@ module _ (o : Options) (heap : Heap) (a b w : Option (List ℕ)) (r x : LineRead
 
   pub help_taken : IsNextJudged o heap r x a b s y judged.Help → HasTakenLine o a b w w r x s y None
   help_taken q head t lb tb h =
-      (Quiet t (codes "help"), goes_quiet o lb a b tb w head t r y (same lb tb head t q.0 h) x n (codes "help") q.1 (inr (refl, q.2)), refl)
+      (Quiet t (codes "help"), goes_quiet o lb a b tb w head t r y (same lb tb head t q.0 h) x n (codes "help") (q.1, omega arith) (inr (refl, q.2)), refl)
 
   pub added_taken : IsNextJudged o heap r x a b s y judged.Added → IsSession false y → HasTakenLine o a b w w r x s y None
   added_taken q is head t lb tb h =
@@ -121,7 +121,7 @@ module _ (o : Options) (heap : Heap) (a b w : Option (List ℕ)) (r x : LineRead
 
   -- a session that is given up at a bad line
   pub bad_refused : (f : Fault) (v : Option (List ℕ)) (refusal : Refusal) → IsNextJudged o heap r x a b s y (judged.Bad f) →
-      GivesUp w v o x.number f refusal → HasReadLines o a b w v r s refusal
+      GivesUp w v o x.number f refusal → HasNotReadLines o a b w v r s refusal
   bad_refused f v refusal j q head t lb tb h = (
     t,
     (by_line j.1).0,
@@ -153,7 +153,7 @@ module _ (o : Options) (heap : Heap) (a b w : Option (List ℕ)) (r x : LineRead
 
 -- a session that is given up since no line came
 pub none_refused : (o : Options) (a b w : Option (List ℕ)) (r : LineReader) (s : Session) (refusal : Refusal) → IsNoLine r a b refusal →
-    HasReadLines o a b w w r s refusal
+    HasNotReadLines o a b w w r s refusal
 none_refused o a b w r s no.ReadFault q head t lb tb h = (t, sound o lb a b tb w head t r s h q.0 q.1, read_fault o lb a b tb w head t r s h q)
 none_refused o a b w r s no.NoMemory q head t lb tb h =
     (t, sound o lb a b tb w head t r s h q.0 q.1, (h.written, takes_whole t (inr h.reading)))

@@ -6,7 +6,7 @@ use Rattle.nmgc_io.specs.Text.{is_blank_or_comment, lines_of}
 use Rattle.nmgc_script.specs.{Parts.end_of, Spelling.IsFaultOfText, Spelling.Spells, Spelling.kept_lines, Spelling.version_3, declared.fault.Cause.Cause, declared.script.Script.Script}
 use Rattle.nmgc_script.specs.declared.fault.Cause.TheVariants as cause
 use Rattle.nmgc_run_laws.specs.Limits.{FitsRun}
-use Rattle.nmgc_live.specs.Lines.{ReadsCut, ReadsLine, ReadsNoLine, fed, next_number, unread}
+use Rattle.nmgc_live.specs.Lines.{ReadsCut, ReadsLine, ReadsShort, ReadsNoLine, fed, next_number, unread}
 use Rattle.nmgc_live.specs.declared.{refusal.Fault.Fault, refusal.Refusal.Refusal, lines.LineReader.LineReader, head.HeadLine.HeadLine, lines.TheConstants.MAX_LINE_BYTES, head.TheConstants.MAX_HEAD_BYTES}
 use Rattle.nmgc_live.specs.declared.refusal.Fault.TheVariants as fault
 use Rattle.nmgc_live.specs.declared.refusal.Refusal.TheVariants as no
@@ -92,7 +92,7 @@ IsHeadLine old new line (head.Bad f) = (new ≡ old) × IsBadInHead old line f
 
 -- a line of the head was read and judged so
 abbrev pub IsNextHeadLine : LineReader → LineReader → Option (List ℕ) → Option (List ℕ) → List ℕ → List ℕ → HeadLine → Type 0
-IsNextHeadLine before now left_old left_new old new head.More = (line : List ℕ) × ReadsLine before now left_old left_new line ×
+IsNextHeadLine before now left_old left_new old new head.More = (line : List ℕ) × ReadsShort before now left_old left_new line ×
     (new ≡ with_line old line) × IsGoodInHead old line
 IsNextHeadLine before now left_old left_new old new (head.Begun script) = ReadsLine before now left_old left_new (codes "begin") × IsHead old script
 IsNextHeadLine before now left_old left_new old new (head.Bad f) = (new ≡ old) × (((line : List ℕ) × ReadsLine before now left_old left_new line ×

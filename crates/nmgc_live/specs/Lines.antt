@@ -43,6 +43,14 @@ ReadsLine old new before now line = (taken : List ℕ) × Consumes before now ta
 abbrev pub ReadsNoLine : LineReader → Option (List ℕ) → Option (List ℕ) → Type 0
 ReadsNoLine old before now = (taken : List ℕ) × Consumes before now taken × HasNoLineFeed (unread old ++ taken)
 
+-- a line that a session may accept: it has no line feed, and at most `MAX_LINE_BYTES` bytes
+abbrev pub IsShortLine : List ℕ → Type 0
+IsShortLine line = HasNoLineFeed line × (length line ≤ MAX_LINE_BYTES)
+
+-- a line was read that isn't too long
+abbrev pub ReadsShort : LineReader → LineReader → Option (List ℕ) → Option (List ℕ) → List ℕ → Type 0
+ReadsShort old new before now line = ReadsLine old new before now line × (length line ≤ MAX_LINE_BYTES)
+
 -- the source ended behind some bytes without a line feed
 abbrev pub ReadsCut : LineReader → LineReader → Option (List ℕ) → Option (List ℕ) → Type 0
 ReadsCut old new before now = (q : ReadsNoLine old before now) × (unread old ++ q.0 ≢ []) × (unread new ≡ []) × IsAtEnd now
@@ -54,7 +62,7 @@ ReadsEnd old new before now = Consumes before now [] × (unread old ≡ []) × (
 -- the answer of a reader: a line that it holds, a line that is too long, no line feed, or the end of the source. If the source
 -- fails, no whole line is left
 abbrev pub IsNextLine : LineReader → LineReader → Option (List ℕ) → Option (List ℕ) → Result NextLine ReadEnd → Type 0
-IsNextLine old new before now (Ok next.Whole) = ReadsLine old new before now new.line.items × (length new.line.items ≤ MAX_LINE_BYTES)
+IsNextLine old new before now (Ok next.Whole) = ReadsShort old new before now new.line.items
 IsNextLine old new before now (Ok next.Long) = (line : List ℕ) × ReadsLine old new before now line × (MAX_LINE_BYTES < length line)
 IsNextLine old new before now (Ok next.Cut) = ReadsCut old new before now
 IsNextLine old new before now (Ok next.End) = ReadsEnd old new before now
@@ -70,7 +78,7 @@ abbrev pub whole_of : Bool → NextLine
 whole_of true = next.Long
 whole_of false = next.Whole
 
-abbrev pub end_of : Bool → List ℕ → NextLine
-end_of true line = next.Cut
-end_of false [] = next.End
-end_of false (b ∷ bytes) = next.Cut
+abbrev pub ended_as : Bool → List ℕ → NextLine
+ended_as true line = next.Cut
+ended_as false [] = next.End
+ended_as false (b ∷ bytes) = next.Cut

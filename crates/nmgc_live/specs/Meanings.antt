@@ -6,8 +6,8 @@ use Rattle.nmgc_io.specs.Text.{is_blank_or_comment, tokens_of}
 use Rattle.nmgc_script.specs.{Reading.command_at, Spelling.version_3, declared.fault.Cause.Cause}
 use Rattle.nmgc_script.specs.declared.fault.Cause.TheVariants as cause
 use Rattle.nmgc_cycle.specs.{declared.command_queue.CommandQueue.CommandQueue, declared.session.Session.Session, Sessions.HasPushedTo, Sessions.HasRoom, Sessions.HaveRoomAll}
-use Rattle.nmgc_live.specs.Lines.{ReadsCut, ReadsEnd, ReadsLine, ReadsNoLine}
-use Rattle.nmgc_live.specs.declared.{options.Options.Options, refusal.Fault.Fault, refusal.Refusal.Refusal, session.Judged.Judged, session.Heap.Heap, lines.LineReader.LineReader, lines.TheConstants.MAX_LINE_BYTES}
+use Rattle.nmgc_live.specs.Lines.{ReadsCut, ReadsEnd, ReadsLine, ReadsNoLine, ReadsShort}
+use Rattle.nmgc_live.specs.declared.{options.Options.Options, refusal.Fault.Fault, refusal.Refusal.Refusal, session.Judged.Judged, session.LineLimits.LineLimits, lines.LineReader.LineReader, lines.TheConstants.MAX_LINE_BYTES}
 use Rattle.nmgc_live.specs.declared.refusal.Fault.TheVariants as fault
 use Rattle.nmgc_live.specs.declared.refusal.Refusal.TheVariants as no
 use Rattle.nmgc_live.specs.declared.session.Judged.TheVariants as judged
@@ -66,10 +66,10 @@ IsJudged words count has_help old new line judged.Help = (new ≡ old) × (line 
 IsJudged words count has_help old new line (judged.Bad f) = (new ≡ old) × IsBad words count has_help (IsFullIn new) line f
 
 -- a line was read and judged so, and the session got its command
-abbrev pub IsNextJudged : Options → Heap → LineReader → LineReader → Option (List ℕ) → Option (List ℕ) → Session → Session → Judged → Type 0
-IsNextJudged o heap before now left_old left_new old new judged.Quiet = (new ≡ old) × ((line : List ℕ) × ReadsLine before now left_old left_new line ×
+abbrev pub IsNextJudged : Options → LineLimits → LineReader → LineReader → Option (List ℕ) → Option (List ℕ) → Session → Session → Judged → Type 0
+IsNextJudged o heap before now left_old left_new old new judged.Quiet = (new ≡ old) × ((line : List ℕ) × ReadsShort before now left_old left_new line ×
     (is_blank_or_comment line ≡ true))
-IsNextJudged o heap before now left_old left_new old new judged.Added = (line : List ℕ) × ReadsLine before now left_old left_new line ×
+IsNextJudged o heap before now left_old left_new old new judged.Added = (line : List ℕ) × ReadsShort before now left_old left_new line ×
     ((m : ℕ) × ((c : Command) × IsGiven heap.words heap.count line m c × HasPushedTo m c old new))
 IsNextJudged o heap before now left_old left_new old new judged.Round = (new ≡ old) × ReadsLine before now left_old left_new (codes "round") × HaveRoomAll new
 IsNextJudged o heap before now left_old left_new old new judged.End = (new ≡ old) × (ReadsLine before now left_old left_new (codes "end") ⊎

@@ -6,7 +6,7 @@ use Rattle.nmgc_run_spec.specs.AfterRound.{program_of}
 use Rattle.nmgc_run_laws.specs.Limits.{FitsRun}
 use Rattle.nmgc_cycle.specs.{declared.collector.Collector.Collector, declared.session.Session.Session, Observed.AreEventsOf, Observed.IsInRun, Sessions.IsSession, Sessions.WithPauses, Sessions.accepted_in}
 use Rattle.nmgc_cycle.specs.declared.observer.Event.TheVariants as event
-use Rattle.nmgc_live.specs.{Heads.IsBadInHead, Heads.IsGoodInHead, Heads.IsHead, Lines.HasNoLineFeed, Lines.fed, Meanings.IsBad, Meanings.IsFullIn, Meanings.IsGiven, Transcripts.Transcript, Transcripts.Bad, Transcripts.Begin, Transcripts.Close, Transcripts.CutOff, Transcripts.Did, Transcripts.Given, Transcripts.Head, Transcripts.InHead, Transcripts.Quiet, Transcripts.Reading, Transcripts.Ready, Transcripts.Round, Transcripts.RoundDue, Transcripts.Start, Transcripts.StopDue, Transcripts.Stopped, Transcripts.TakesLine, Transcripts.events_of, Transcripts.given_to, Transcripts.head_of, Transcripts.is_open, Transcripts.phase_of, declared.options.Options.Options, declared.refusal.Fault.Fault}
+use Rattle.nmgc_live.specs.{Heads.IsBadInHead, Heads.IsGoodInHead, Heads.IsHead, Lines.HasNoLineFeed, Lines.IsShortLine, Lines.fed, Meanings.IsBad, Meanings.IsFullIn, Meanings.IsGiven, Transcripts.Transcript, Transcripts.Bad, Transcripts.Begin, Transcripts.Close, Transcripts.CutOff, Transcripts.Did, Transcripts.Given, Transcripts.Head, Transcripts.InHead, Transcripts.Quiet, Transcripts.Reading, Transcripts.Ready, Transcripts.Round, Transcripts.RoundDue, Transcripts.Start, Transcripts.StopDue, Transcripts.Stopped, Transcripts.TakesLine, Transcripts.events_of, Transcripts.given_to, Transcripts.head_of, Transcripts.is_open, Transcripts.phase_of, declared.options.Options.Options, declared.refusal.Fault.Fault}
 
 -- the events of a transcript belong to a lawful run so far, and are all its events. Its script has the heap of the head, and each program consists of
 -- the commands that the mutator was given, with pauses between them. `stop` says whether a stop comes next
@@ -39,14 +39,15 @@ abbrev pub IsBadLine : Options → Script → Transcript → List ℕ → Fault 
 IsBadLine o head t line f = ((phase_of t ≡ InHead) × IsBadInHead (head_of t) line f) ⊎
     ((phase_of t ≡ Reading) × IsBad head.config.words (length head.threads) o.has_prompts (IsFullFor head t) line f)
 
--- each part follows from those before, in a session of this form with this head. A line has no line feed
+-- each part follows from those before, in a session of this form with this head. A line has no line feed, and an accepted one isn't
+-- too long
 abbrev pub IsPlayed : Options → Script → Transcript → Type 0
 IsPlayed o head Start = Unit {0}
-IsPlayed o head (Head t line) = IsPlayed o head t × (phase_of t ≡ InHead) × HasNoLineFeed line × IsGoodInHead (head_of t) line
+IsPlayed o head (Head t line) = IsPlayed o head t × (phase_of t ≡ InHead) × IsShortLine line × IsGoodInHead (head_of t) line
 IsPlayed o head (Begin t) = IsPlayed o head t × (phase_of t ≡ InHead) × IsHead (head_of t) head
-IsPlayed o head (Quiet t line) = IsPlayed o head t × (phase_of t ≡ Reading) × HasNoLineFeed line ×
+IsPlayed o head (Quiet t line) = IsPlayed o head t × (phase_of t ≡ Reading) × IsShortLine line ×
     ((is_blank_or_comment line ≡ true) ⊎ ((line ≡ codes "help") × (o.has_prompts ≡ true)))
-IsPlayed o head (Given t line m c) = IsPlayed o head t × (phase_of t ≡ Reading) × HasNoLineFeed line ×
+IsPlayed o head (Given t line m c) = IsPlayed o head t × (phase_of t ≡ Reading) × IsShortLine line ×
     IsGiven head.config.words (length head.threads) line m c
 IsPlayed o head (Bad t line f) = IsPlayed o head t × (o.passes_over ≡ true) × HasNoLineFeed line × IsBadLine o head t line f
 IsPlayed o head (CutOff t part) = IsPlayed o head t × (o.passes_over ≡ true) × TakesLine t × HasNoLineFeed part × (part ≢ [])

@@ -7,11 +7,11 @@ use Rattle.nmgc_journal.specs.declared.report.End.TheVariants as ending
 use Rattle.nmgc_run_spec.specs.{Lawful.IsRunOf}
 use Rattle.nmgc_cycle.specs.{declared.observer.Event.Event, declared.session.Session.Session, Keeps.HasEnded, Observed.AreEventsOf, Sessions.IsSession, Sessions.script_in, Shown.report_of}
 use Rattle.nmgc_cycle.specs.declared.observer.Event.TheVariants as event
-use Rattle.nmgc_live.specs.{Heads.IsHead, Lines.unread, Live.EndsAtCuts, Live.HasGivenUp, Live.IsRefused, Live.IsSound, Played.Carries, Played.IsPlayed, Transcripts.HasNoStopDue, Transcripts.InHead, Transcripts.Reading, Transcripts.RoundDue, Transcripts.StopDue, Transcripts.Stopped, Transcripts.Transcript, Transcripts.bytes_of, Transcripts.closed_by, Transcripts.events_of, Transcripts.given_to, Transcripts.head_of, Transcripts.is_open, Transcripts.number_of, Transcripts.phase_of, Transcripts.round_of, Transcripts.text_of, declared.lines.LineReader.LineReader, declared.options.Options.Options, declared.refusal.Refusal.Refusal, declared.session.Heap.Heap, declared.writer.ReportText.ReportText, Lines.IsReader, Live.HasEndedRun, declared.session.LiveSession.LiveSession}
+use Rattle.nmgc_live.specs.{Heads.IsHead, Lines.unread, Live.EndsAtCuts, Live.HasGivenUp, Live.IsRefused, Live.IsSound, Played.Carries, Played.IsPlayed, Transcripts.HasNoStopDue, Transcripts.InHead, Transcripts.Reading, Transcripts.RoundDue, Transcripts.StopDue, Transcripts.Stopped, Transcripts.Transcript, Transcripts.bytes_of, Transcripts.closed_by, Transcripts.events_of, Transcripts.given_to, Transcripts.head_of, Transcripts.is_open, Transcripts.number_of, Transcripts.phase_of, Transcripts.round_of, Transcripts.text_of, declared.lines.LineReader.LineReader, declared.options.Options.Options, declared.refusal.Refusal.Refusal, declared.session.LineLimits.LineLimits, declared.writer.ReportText.ReportText, Lines.IsReader, Live.HasEndedRun, declared.session.LiveSession.LiveSession}
 use Rattle.nmgc_cli.specs.Output.{status_of}
 
 -- the numbers of a session's heap
-abbrev pub IsHeapOf : Heap → Session → Type 0
+abbrev pub IsHeapOf : LineLimits → Session → Type 0
 IsHeapOf heap session = (heap.words ≡ session.config.words) × (heap.count ≡ length session.queues.items)
 
 -- the text behind a stop: the line of the run's end, or `ready` while lines may come
@@ -80,13 +80,13 @@ HasReadUpTo o left_old left_new taken_old taken_new lines_old lines_new old new 
     (u : Transcript) × IsRounding o left_before left_new taken_before taken_new head u lines_new new is_open_now × (round_of u ≡ round_of t)
 
 -- a session was given up while lines were read
-abbrev pub HasReadLines : Options → Option (List ℕ) → Option (List ℕ) → Option (List ℕ) → Option (List ℕ) → LineReader → Session → Refusal → Type 0
-HasReadLines o left_old left_new taken_old taken_new lines_old old refusal =
+abbrev pub HasNotReadLines : Options → Option (List ℕ) → Option (List ℕ) → Option (List ℕ) → Option (List ℕ) → LineReader → Session → Refusal → Type 0
+HasNotReadLines o left_old left_new taken_old taken_new lines_old old refusal =
     (head : Script) (t : Transcript) (left_before taken_before : Option (List ℕ)) →
     IsReading o left_before left_old taken_before taken_old head t lines_old old →
     (u : Transcript) × IsSound o left_before left_new head u × IsRefused o left_before left_new taken_before taken_new head u refusal
 
--- whether a session is open behind a line; `turn` is none if another line follows
+-- whether a session is open behind a line: it is if another line follows
 abbrev pub open_after : Option Bool → Bool
 open_after None = true
 open_after (Some is_open) = is_open

@@ -7,7 +7,7 @@
 ghost use Rattle.std.specs.Prelude.{◌≡◌, ◌++◌, ◌≤◌, List, ℕ, [], length, IfOk, IfErr, OnOk, IsErrOf};
 ghost use Rattle.std.specs.Io.KnownBytes.{Consumes, IsAtEnd, Keeps};
 ghost use Rattle.nmgc_io.specs.Text.{Rose};
-ghost use Rattle.nmgc_live.specs.Lines.{EndsPart, HasNoLineFeed, HoldsPart, IsNextLine, IsReader, end_of, next_number, unread, whole_of};
+ghost use Rattle.nmgc_live.specs.Lines.{EndsPart, HasNoLineFeed, HoldsPart, IsNextLine, IsReader, ended_as, next_number, unread, whole_of};
 
 use nmgc_io::{ReadEnd, Source, cut};
 use nmgc_lists::NoMemory;
@@ -115,7 +115,7 @@ impl LineReader {
 
     // Returns the outcome of a source that has ended.
     fn at_end(&self) -> NextLine
-        ensures { result ≡ end_of self.now.is_long self.now.line.items }
+        ensures { result ≡ ended_as self.now.is_long self.now.line.items }
     {
         match self.line.as_slice() {
             [] if !self.is_long => NextLine::End,

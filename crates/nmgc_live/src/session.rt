@@ -14,7 +14,7 @@ ghost use Rattle.nmgc_cycle.specs.Sessions.{HasSameLines, HaveRoomAll, IsSession
 ghost use Rattle.nmgc_live.specs.Lines.{IsReader, next_number};
 ghost use Rattle.nmgc_live.specs.Live.{HasEndedRun, HasGivenUp, IsLive};
 ghost use Rattle.nmgc_live.specs.Meanings.{HasToGive, IsJudged, IsNextJudged, IsNoLine, IsRoundJudged, IsWordFault};
-ghost use Rattle.nmgc_live.specs.Steps.{DidRound, DidStop, HasAnsweredStop, HasComeToRound, HasComeToStop, HasNotAnsweredStop, HasNotComeToRound, HasNotComeToStop, HasReadLines, HasTakenLine, IsAfterStop, IsAtStop, IsHeapOf, IsLiveSession, WritesStop, open_after, tail_of};
+ghost use Rattle.nmgc_live.specs.Steps.{DidRound, DidStop, HasAnsweredStop, HasComeToRound, HasComeToStop, HasNotAnsweredStop, HasNotComeToRound, HasNotComeToStop, HasNotReadLines, HasTakenLine, IsAfterStop, IsAtStop, IsHeapOf, IsLiveSession, WritesStop, open_after, tail_of};
 
 use crate::head::read_head;
 use crate::lines::{LineReader, NextLine};
@@ -95,7 +95,7 @@ fn session<R: Threads + Sync, S: Source, K: Sink, E: Sink>(
 #[derive(Drop)]
 struct LiveSession {
     lines: LineReader,
-    heap: Heap,
+    heap: LineLimits,
     session: Session,
     // Whether further lines may come.
     is_open: bool,
@@ -103,9 +103,9 @@ struct LiveSession {
     report: ReportText,
 }
 
-// The numbers of a heap by which lines are judged: the words of a segment, and the mutators.
+// Lines are judged by these numbers of the heap: the words of a segment, and the mutators.
 #[derive(Clone, Copy)]
-struct Heap {
+struct LineLimits {
     words: u32,
     count: usize,
 }
@@ -127,7 +127,7 @@ fn begin<S: Source, K: Sink, E: Sink>(
 {
     let mut lines = LineReader::new(alloc)?;
     let head = read_head(alloc, &mut lines, source, sink, prompts, options)?;
-    let heap = Heap {
+    let heap = LineLimits {
         words: head.config.words,
         count: head.threads.items().len(),
     };
@@ -281,7 +281,7 @@ fn round<R: Threads + Sync>(
 // whether the session is still open.
 fn come_to_round<S: Source, K: Sink, E: Sink>(
     alloc: Global,
-    heap: Heap,
+    heap: LineLimits,
     options: Options,
     was_open: bool,
     lines: &mut LineReader,
@@ -326,7 +326,7 @@ fn come_to_round<S: Source, K: Sink, E: Sink>(
 // is still open.
 fn take_line<S: Source, K: Sink, E: Sink>(
     alloc: Global,
-    heap: Heap,
+    heap: LineLimits,
     options: Options,
     lines: &mut LineReader,
     session: &mut Session,
@@ -346,7 +346,7 @@ fn take_line<S: Source, K: Sink, E: Sink>(
     ensures heap { OnOk result (IsHeapOf heap session.new) }
     ensures read { IfOk result (λ turn. HasTakenLine options (S.left source.old) (S.left source.new) (K.taken sink.old) (K.taken sink.new)
         lines.old lines.new session.old session.new turn) }
-    ensures refused { IfErr result (λ refusal. HasReadLines options (S.left source.old) (S.left source.new) (K.taken sink.old) (K.taken sink.new)
+    ensures refused { IfErr result (λ refusal. HasNotReadLines options (S.left source.old) (S.left source.new) (K.taken sink.old) (K.taken sink.new)
         lines.old session.old refusal) }
     ensures reads { S.faults source.old ≤ S.faults source.new }
     ensures writes { K.faults sink.old ≤ K.faults sink.new }
@@ -375,7 +375,7 @@ fn take_line<S: Source, K: Sink, E: Sink>(
 // Reads a line and judges it. A command is added to its mutator's.
 fn next_line<S: Source>(
     alloc: Global,
-    heap: Heap,
+    heap: LineLimits,
     options: Options,
     lines: &mut LineReader,
     session: &mut Session,
@@ -404,7 +404,7 @@ fn next_line<S: Source>(
 // The fault of a line whose first token is no mutator's number.
 const NO_MUTATOR: Fault = Fault::Script(Cause::Thread);
 
-// The meaning of a line after the head.
+// A line behind the head means one of these.
 enum Judged {
     // An empty line, or a comment.
     Quiet,
@@ -416,10 +416,10 @@ enum Judged {
     Bad(Fault),
 }
 
-// Judges a line after the head. A command is added to its mutator's.
+// Judges a line behind the head. A command is added to its mutator's.
 fn judge_line(
     alloc: Global,
-    heap: Heap,
+    heap: LineLimits,
     has_prompts: bool,
     session: &mut Session,
     line: &[u8],
@@ -459,7 +459,7 @@ fn judge_round(session: &Session) -> Judged
 // Judges a line with a mutator's number and a command, and adds the command.
 fn judge_command(
     alloc: Global,
-    heap: Heap,
+    heap: LineLimits,
     session: &mut Session,
     line: &[u8],
 ) -> Result<Judged, NoMemory>

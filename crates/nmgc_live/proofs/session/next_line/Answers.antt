@@ -13,6 +13,6 @@ returns-in_ok-judge_line-in-Whole-clause-judged g c =
     let y = c.judge_line.new.session in
     let j = c.in_ok-judge_line-in-Whole.field-0 in
     let next = subst (λ (n : NextLine). IsNextLine r x a b (Ok n)) c.in-Whole.is c.in_ok-next.ensures.line in
-    line_read c.args.options c.args.heap r x a b s y j next.0
+    line_read c.args.options c.args.heap r x a b s y j next
     (subst (λ (l : List ℕ). IsJudged c.args.heap.words c.args.heap.count c.args.options.has_prompts s y l j) c.line.ensures
     c.in_ok-judge_line-in-Whole.ensures.judged)
